@@ -1,0 +1,3 @@
+-- The definitions that the contracts of `range_buf` cite.
+pub mod State
+pub mod Rules

@@ -1,0 +1,109 @@
+// The words that every crate shares: the ten numbered refusals, the plain answer, a number that may be missing, M, and the few
+// small sums that the Rust takes from its library.
+//
+// A refusal is an answer like any other. Its number is the one that document 01 gives it, and it travels up unchanged through every
+// module above the one that gave it.
+ghost use mathlib.Core.Path.{_≡_};
+ghost use Prim.Native.Nat.{_+_, _-_, _≤_, min, max};
+ghost use lib.Dec.{ltb};
+ghost use Rattle.refusal.specs.Rules.{M, numberOf, codeOf};
+
+// The largest stream offset, 2^62 - 1 (RFC 9000, 19.8).
+pub const M: u64 = 0x3fff_ffff_ffff_ffff;
+
+pub enum Refusal {
+    Offset,
+    Stopped(u64),
+    FinalSize,
+    FlowControl,
+    NoRoom,
+    TableFull,
+    NeverSent,
+    Done,
+    Reset(u64),
+    BadSetup,
+}
+
+// The answer of a call that has no numbers to give.
+pub enum Answer {
+    Done,
+    Refused(Refusal),
+}
+
+// A number, or none: the Rust's `Option<u64>`.
+pub enum OptionU64 {
+    None,
+    Some(u64),
+}
+
+impl Refusal {
+    // Document 01's number.
+    pub fn number(self) -> u64
+        ensures { λ r. ⌜ r ≡ numberOf self ⌝ }
+    {
+        match self {
+            Refusal::Offset => 1,
+            Refusal::Stopped(_) => 2,
+            Refusal::FinalSize => 3,
+            Refusal::FlowControl => 4,
+            Refusal::NoRoom => 5,
+            Refusal::TableFull => 6,
+            Refusal::NeverSent => 7,
+            Refusal::Done => 8,
+            Refusal::Reset(_) => 9,
+            Refusal::BadSetup => 10,
+        }
+    }
+
+    // The error code that the peer or the application gave, where the refusal has one.
+    pub fn code(self) -> OptionU64
+        ensures { λ r. ⌜ r ≡ codeOf self ⌝ }
+    {
+        match self {
+            Refusal::Offset => OptionU64::None,
+            Refusal::Stopped(code) => OptionU64::Some(code),
+            Refusal::FinalSize => OptionU64::None,
+            Refusal::FlowControl => OptionU64::None,
+            Refusal::NoRoom => OptionU64::None,
+            Refusal::TableFull => OptionU64::None,
+            Refusal::NeverSent => OptionU64::None,
+            Refusal::Done => OptionU64::None,
+            Refusal::Reset(code) => OptionU64::Some(code),
+            Refusal::BadSetup => OptionU64::None,
+        }
+    }
+}
+
+// The lesser of two numbers.
+pub fn least(a: u64, b: u64) -> u64
+    ensures { λ r. ⌜ (r ≡ min a b) × (r ≤ a) × (r ≤ b) ⌝ }
+{
+    if a < b { a } else { b }
+}
+
+// The greater of two numbers.
+pub fn most(a: u64, b: u64) -> u64
+    ensures { λ r. ⌜ (r ≡ max a b) × (a ≤ r) × (b ≤ r) ⌝ }
+{
+    if a < b { b } else { a }
+}
+
+// What is left of `a` without `b`: nothing where that is more.
+pub fn saturating_sub(a: u64, b: u64) -> u64
+    ensures { λ r. ⌜ (r ≡ a - b) × (r ≤ a) ⌝ }
+{
+    if a < b { 0 } else { a - b }
+}
+
+// Does the whole sum of two numbers pass M?
+pub fn above_m(a: u64, b: u64) -> bool
+    ensures { λ r. ⌜ r ≡ ltb M (a + b) ⌝ }
+{
+    if M < a {
+        return true;
+    }
+    if M - a < b {
+        return true;
+    }
+    false
+}
