@@ -1,42 +1,40 @@
+-- `FlowControl::autotune_window` meets its contract. Assumes nothing.
+use Rattle.flowcontrol.proofs.Recent.{was-recent, was-long-ago}
 use borrow.Author.Needs.{needs}
 use Rattle.flowcontrol.proofs.FlowControl.autotune_window.Statement.{statement}
 use Rattle.flowcontrol.proofs.FlowControl.autotune_window.Tie as tie
-use Rattle.flowcontrol.proofs.FlowControl.autotune_window.Reads as reads
-use Rattle.flowcontrol.proofs.FlowControl.autotune_window.Lts as lts
-use Rattle.flowcontrol.proofs.FlowControl.set_window.Reads as set-window-reads
-use Rattle.flowcontrol.proofs.elapsed.Reads as elapsed-reads
 
--- src/lib.rt:140:29
 enum-known-last : tie.Need-enum-known-last
 enum-known-last c = search needs
 
--- src/lib.rt:141:13
 enum-told : tie.Need-enum-told
 enum-told c = search needs
 
--- src/lib.rt:141:13
 returns : tie.Need-returns
 returns c = search needs
 
--- src/lib.rt:144:12
-elapsed-requires : tie.Need-elapsed-requires
-elapsed-requires c κs = search needs
+saturating-sub-requires : tie.Need-saturating-sub-requires
+saturating-sub-requires c κs = search needs
 
--- src/lib.rt:145:36
 mul-set-window : tie.Need-mul-set-window
 mul-set-window c = search needs
 
--- src/lib.rt:145:13
 set-window-requires : tie.Need-set-window-requires
 set-window-requires c κs = search needs
 
--- src/lib.rt:145:13
 returns-2 : tie.Need-returns-2
-returns-2 c = ?
+returns-2 c =
+    let s = c .before .before .before in
+    let a = s .before .before .before .before .args in
+    let l = s .before .before .last .given in
+    rw (c .set-window .ensures, was-recent (a .self .«last_update») _ (a .now) (a .rtt) (s .saturating-sub .result) (l .1) (s .saturating-sub .ensures .0) (c .before .before .if1 .taken))
 
--- src/lib.rt:135:5
 returns-3 : tie.Need-returns-3
-returns-3 c = ?
+returns-3 c =
+    let s = c .before in
+    let a = s .before .before .before .before .args in
+    let l = s .before .before .last .given in
+    rw (was-long-ago (a .self .«last_update») _ (a .now) (a .rtt) (s .saturating-sub .result) (l .1) (s .saturating-sub .ensures .0) (c .if1 .left))
 
 pub autotune-window-spec : {M : Type 1} → statement M
 autotune-window-spec =
@@ -45,7 +43,7 @@ autotune-window-spec =
     enum-known-last
     enum-told
     returns
-    elapsed-requires
+    saturating-sub-requires
     mul-set-window
     set-window-requires
     returns-2

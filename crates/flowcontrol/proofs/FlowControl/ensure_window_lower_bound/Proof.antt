@@ -1,25 +1,20 @@
+-- `FlowControl::ensure_window_lower_bound` meets its contract. Assumes nothing.
+use borrow.Author.Tests.{lt-ltb, le-ltb}
 use borrow.Author.Needs.{needs}
 use Rattle.flowcontrol.proofs.FlowControl.ensure_window_lower_bound.Statement.{statement}
 use Rattle.flowcontrol.proofs.FlowControl.ensure_window_lower_bound.Tie as tie
-use Rattle.flowcontrol.proofs.FlowControl.ensure_window_lower_bound.Reads as reads
-use Rattle.flowcontrol.proofs.FlowControl.ensure_window_lower_bound.Lts as lts
-use Rattle.flowcontrol.proofs.FlowControl.set_window.Reads as set-window-reads
 
--- src/lib.rt:156:13
 returns : tie.Need-returns
-returns c = ?
+returns c = simp (lt-ltb _ _ (c .if1 .taken))
 
--- src/lib.rt:164:23
 set-window-requires : tie.Need-set-window-requires
 set-window-requires c κs = search needs
 
--- src/lib.rt:162:13
 returns-2 : tie.Need-returns-2
-returns-2 c = ?
+returns-2 c = rw (c .set-window .ensures) (simp (le-ltb _ _ (c .before .before .before .if1 .left), lt-ltb _ _ (c .before .if2 .taken)))
 
--- src/lib.rt:151:5
 returns-3 : tie.Need-returns-3
-returns-3 c = ?
+returns-3 c = simp (le-ltb _ _ (c .before .before .if1 .left), le-ltb _ _ (c .if2 .left))
 
 pub ensure-window-lower-bound-spec : {M : Type 1} → statement M
 ensure-window-lower-bound-spec =

@@ -1,16 +1,13 @@
+-- `FlowControl::should_update_max_data` meets its contract. Assumes nothing.
 use borrow.Author.Needs.{needs}
 use Rattle.flowcontrol.proofs.FlowControl.should_update_max_data.Statement.{statement}
 use Rattle.flowcontrol.proofs.FlowControl.should_update_max_data.Tie as tie
-use Rattle.flowcontrol.proofs.FlowControl.should_update_max_data.Reads as reads
-use Rattle.flowcontrol.proofs.FlowControl.should_update_max_data.Lts as lts
 
--- src/lib.rt:107:13
+saturating-sub-requires : tie.Need-saturating-sub-requires
+saturating-sub-requires c κs = search needs
+
 returns : tie.Need-returns
-returns c = ?
-
--- src/lib.rt:103:5
-returns-2 : tie.Need-returns-2
-returns-2 c = search needs
+returns c = rw (c .before .saturating-sub .ensures .0)
 
 pub should-update-max-data-spec : {M : Type 1} → statement M
-should-update-max-data-spec = tie.close (tie.spec returns returns-2)
+should-update-max-data-spec = tie.close (tie.spec saturating-sub-requires returns)

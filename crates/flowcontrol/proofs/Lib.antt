@@ -1,0 +1,2 @@
+-- What the functions' proofs and the callers' proofs cite.
+mod Recent
