@@ -1,0 +1,4 @@
+-- The laws of the arena, which this crate's proofs and its callers' cite.
+pub mod Places
+pub mod Laws
+mod Loops

@@ -1,0 +1,2 @@
+-- The definitions that the contracts of `arena` cite.
+pub mod Rules
