@@ -87,8 +87,10 @@ held-other : (a : List ℕ) (lo o : ℕ) (bs : List ℕ) (q n : ℕ) → lo ≤ 
 unfolding held
 held-other a lo o bs q zero h k c d f = refl
 held-other a lo o bs q (suc n) h k c d f =
-    rw (byte-other a lo o bs q h k c (omega arith) (f q (omega arith) (omega arith)),
-    held-other a lo o bs (suc q) n h k (omega arith) (omega arith) (λ i x y. f i (omega arith) (omega arith)))
+    rw (
+      byte-other a lo o bs q h k c (omega arith) (f q (omega arith) (omega arith)),
+      held-other a lo o bs (suc q) n h k (omega arith) (omega arith) (λ i x y. f i (omega arith) (omega arith)),
+    )
 
 pub held-before : (a : List ℕ) (o : ℕ) (bs : List ℕ) (q n : ℕ) → q + n ≤ o → o + length bs ≤ q + length a → held (kept a o bs) q n ≡ held a q n
 held-before a o bs q n h k = held-other a q o bs q n (omega arith) k (omega arith) (omega arith) (λ i x y z w. omega arith)

@@ -8,7 +8,6 @@
 ghost use mathlib.Core.Path.{_≡_};
 ghost use Rattle.flowcontrol.specs.State.{Good};
 ghost use Rattle.flowcontrol.specs.Rules.{badNumbers, created, consumedMore, due, next, committed, autotuned, withWindow, atLeast};
-
 use refusal::Answer;
 use refusal::OptionU64;
 use refusal::Refusal;

@@ -7,7 +7,6 @@
 ghost use mathlib.Core.Path.{_≡_};
 ghost use Rattle.range_buf.specs.State.{Good};
 ghost use Rattle.range_buf.specs.Rules.{start, end, avail, isEmpty, created, consumed, split};
-
 use refusal::Answer;
 use refusal::Refusal;
 

@@ -57,8 +57,7 @@ loop-again c =
     let l = c .before .before .before .loop in
     let a = c .before .before .before .before .before .before .before .before .args in
     let off = a .off in
-    let all = length (a .arena .now) in
-    (
+    let all = length (a .arena .now) in (
       search needs,
       length-set (l .out) (l .i) (getD (a .arena .now) (l .at) 0) ∙ l .inv .1,
       c .following .ensures .1,

@@ -58,8 +58,7 @@ loop-again c =
     let a = c .before .before .before .before .before .before .before .before .args in
     let off = a .off in
     let all = length (a .arena .now) in
-    let at : l .at ≡ (off + l .i) % length (l .arena) = rw (l .inv .1) (l .inv .3) in
-    (
+    let at : l .at ≡ (off + l .i) % length (l .arena) = rw (l .inv .1) (l .inv .3) in (
       search needs,
       length-set (l .arena) (l .at) (getD (a .src .now) (l .i) 0) ∙ l .inv .1,
       c .following .ensures .1,
