@@ -1,7 +1,17 @@
--- The numbered refusals of document 01 ("Numbered refusals"), and the largest offset ("Sizes").
+-- The numbered refusals of document 01 ("Numbered refusals"), what each kind of answer says in its numbers, and the largest offset ("Sizes").
+use mathlib.Core.Bool.{cond}
+use mathlib.Core.List.{List, [], _∷_}
 use Prim.Native.Nat.{ℕ, _-_, _^_}
 use Rattle.refusal.specs.declared.Refusal.{Refusal}
 use Rattle.refusal.specs.declared.Refusal.the-variants.{Offset, Stopped, FinalSize, FlowControl, NoRoom, TableFull, NeverSent, Done, Reset, BadSetup}
+use Rattle.refusal.specs.declared.Answer.{Answer}
+use Rattle.refusal.specs.declared.Answer.the-variants.{Done as Ok, Refused}
+use Rattle.refusal.specs.declared.CountAnswer.{CountAnswer}
+use Rattle.refusal.specs.declared.CountAnswer.the-variants.{Count, Refused as NoCount}
+use Rattle.refusal.specs.declared.EmitAnswer.{EmitAnswer}
+use Rattle.refusal.specs.declared.EmitAnswer.the-variants.{Emitted, Refused as NoBytes}
+use Rattle.refusal.specs.declared.SizesAnswer.{SizesAnswer}
+use Rattle.refusal.specs.declared.SizesAnswer.the-variants.{Sizes, Refused as NoSizes}
 use Rattle.refusal.specs.declared.OptionU64.{OptionU64}
 use Rattle.refusal.specs.declared.OptionU64.the-variants.{None, Some}
 
@@ -34,3 +44,40 @@ codeOf NeverSent = None
 codeOf Done = None
 codeOf (Reset code) = Some code
 codeOf BadSetup = None
+
+-- what an answer says: document 01's number, 0 for a success, and the values that go with it
+pub record Told : Type 0 where
+  pub number : ℕ
+  pub values : List ℕ
+
+abbrev pub listOf : OptionU64 → List ℕ
+listOf None = []
+listOf (Some n) = n ∷ []
+
+abbrev pub refusal : Refusal → Told
+refusal why = record { number = numberOf why; values = listOf (codeOf why) }
+
+abbrev pub success : List ℕ → Told
+success values = record { number = 0; values = values }
+
+-- each kind of answer; an end mark is 1 or 0
+abbrev pub told : Answer → Told
+told Ok = success []
+told (Refused why) = refusal why
+
+abbrev pub toldCount : CountAnswer → Told
+toldCount (Count n) = success (n ∷ [])
+toldCount (NoCount why) = refusal why
+
+abbrev pub toldEmit : EmitAnswer → Told
+toldEmit (Emitted n fin) = success (n ∷ cond fin 1 0 ∷ [])
+toldEmit (NoBytes why) = refusal why
+
+abbrev pub toldSizes : SizesAnswer → Told
+toldSizes (Sizes a b) = success (a ∷ b ∷ [])
+toldSizes (NoSizes why) = refusal why
+
+-- a plain answer with a count: a refusal goes up under its own number
+abbrev pub withCount : Answer → ℕ → CountAnswer
+withCount Ok n = Count n
+withCount (Refused why) n = NoCount why

@@ -1,4 +1,4 @@
-// The words that every crate shares: the ten numbered refusals, the plain answer, a number that may be missing, M, and the few
+// The words that every crate shares: the ten numbered refusals, the kinds of answer, a number that may be missing, M, and the few
 // small sums that the Rust takes from its library.
 //
 // A refusal is an answer like any other. Its number is the one that document 01 gives it, and it travels up unchanged through every
@@ -6,7 +6,7 @@
 ghost use mathlib.Core.Path.{_≡_};
 ghost use Prim.Native.Nat.{_+_, _-_, _≤_, min, max};
 ghost use lib.Dec.{ltb};
-ghost use Rattle.refusal.specs.Rules.{M, numberOf, codeOf};
+ghost use Rattle.refusal.specs.Rules.{M, numberOf, codeOf, told, toldCount, toldEmit, toldSizes, withCount};
 
 // The largest stream offset, 2^62 - 1 (RFC 9000, 19.8).
 pub const M: u64 = 0x3fff_ffff_ffff_ffff;
@@ -27,6 +27,24 @@ pub enum Refusal {
 // The answer of a call that has no numbers to give.
 pub enum Answer {
     Done,
+    Refused(Refusal),
+}
+
+// The answer of a call that counts bytes: accepted, dropped, moved back, given up.
+pub enum CountAnswer {
+    Count(u64),
+    Refused(Refusal),
+}
+
+// The answer of a call that hands bytes out: how many, and whether they reach the final size.
+pub enum EmitAnswer {
+    Emitted(u64, bool),
+    Refused(Refusal),
+}
+
+// The answer of a reset: two sizes.
+pub enum SizesAnswer {
+    Sizes(u64, u64),
     Refused(Refusal),
 }
 
@@ -70,6 +88,64 @@ impl Refusal {
             Refusal::Done => OptionU64::None,
             Refusal::Reset(code) => OptionU64::Some(code),
             Refusal::BadSetup => OptionU64::None,
+        }
+    }
+}
+
+impl Answer {
+    // Document 01's number; 0 is success.
+    pub fn number(self) -> u64
+        ensures { λ r. ⌜ r ≡ told self .number ⌝ }
+    {
+        match self {
+            Answer::Done => 0,
+            Answer::Refused(why) => why.number(),
+        }
+    }
+
+    // The same answer with a count, where it is no refusal: a refusal goes up under its own number.
+    pub fn with_count(self, count: u64) -> CountAnswer
+        ensures { λ r. ⌜ r ≡ withCount self count ⌝ }
+    {
+        match self {
+            Answer::Done => CountAnswer::Count(count),
+            Answer::Refused(why) => CountAnswer::Refused(why),
+        }
+    }
+}
+
+impl CountAnswer {
+    // Document 01's number; 0 is success.
+    pub fn number(self) -> u64
+        ensures { λ r. ⌜ r ≡ toldCount self .number ⌝ }
+    {
+        match self {
+            CountAnswer::Count(_) => 0,
+            CountAnswer::Refused(why) => why.number(),
+        }
+    }
+}
+
+impl EmitAnswer {
+    // Document 01's number; 0 is success.
+    pub fn number(self) -> u64
+        ensures { λ r. ⌜ r ≡ toldEmit self .number ⌝ }
+    {
+        match self {
+            EmitAnswer::Emitted(_, _) => 0,
+            EmitAnswer::Refused(why) => why.number(),
+        }
+    }
+}
+
+impl SizesAnswer {
+    // Document 01's number; 0 is success.
+    pub fn number(self) -> u64
+        ensures { λ r. ⌜ r ≡ toldSizes self .number ⌝ }
+    {
+        match self {
+            SizesAnswer::Sizes(_, _) => 0,
+            SizesAnswer::Refused(why) => why.number(),
         }
     }
 }
