@@ -2,3 +2,4 @@
 pub mod Places
 pub mod Laws
 mod Loops
+pub mod Unique

@@ -1,2 +1,5 @@
--- What the functions' proofs and the callers' proofs cite.
+-- The laws of the window, which callers cite.
 mod Recent
+pub mod Kept
+pub mod Unique
+pub mod Examples

@@ -4,3 +4,5 @@ mod Asked
 mod Insert
 mod Remove
 pub mod Kept
+pub mod Unique
+pub mod Examples

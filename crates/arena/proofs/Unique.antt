@@ -1,0 +1,12 @@
+-- The contracts determine the arena and the output: no second one satisfies them. Assumes nothing.
+use mathlib.Core.Path.{_≡_}
+use mathlib.Core.List.{List}
+use Prim.Native.Nat.{ℕ}
+use Rattle.tables.proofs.Tables.{no-second}
+use Rattle.arena.specs.Rules.{kept, handed}
+
+pub keep-one : (a : List ℕ) (o : ℕ) (bs p q : List ℕ) → p ≡ kept a o bs → q ≡ kept a o bs → p ≡ q
+keep-one a o bs = no-second
+
+pub hand-one : (a : List ℕ) (o : ℕ) (out p q : List ℕ) → p ≡ handed a o out → q ≡ handed a o out → p ≡ q
+hand-one a o out = no-second

@@ -1,0 +1,58 @@
+-- Every window that came from creation or a call is good, whatever the numbers; a refused creation's too. Assumes nothing.
+use mathlib.Core.Path.{_≡_}
+use mathlib.Core.Bool.{false, cond, _||_}
+use Prim.Native.Nat.{ℕ, _+_, _*_, _≤_}
+use native.Mathlib.Omega.{arith}
+use borrow.Author.Tests.{ltb-false}
+use lib.Dec.{ltb}
+use Rattle.tables.proofs.Tables.{by-test, cond-elim}
+use Rattle.refusal.specs.Rules.{M}
+use Rattle.flowcontrol.specs.declared.FlowControl.{FlowControl}
+use Rattle.flowcontrol.specs.declared.Outcome.{Outcome}
+use Rattle.flowcontrol.specs.State.{Good}
+use Rattle.flowcontrol.specs.Rules.{fresh, badNumbers, created, withConsumed, withWindow, consumedMore, committed, recent, autotuned, atLeast}
+
+pub fresh-good : (limit window maximum : ℕ) → limit ≤ M → maximum ≤ M → Good (fresh limit window maximum)
+fresh-good limit window maximum l m = record { consumed-in = omega arith; window-in = omega arith; maximum-in = m; limit-in = omega arith }
+
+pub consumed-good : (f : FlowControl) (n : ℕ) → n ≤ M → Good f → Good (withConsumed f n)
+consumed-good f n h g = record { consumed-in = h; window-in = g .window-in; maximum-in = g .maximum-in; limit-in = g .limit-in }
+
+pub window-good : (f : FlowControl) (n : ℕ) → Good f → Good (withWindow f n)
+window-good f n g = record { consumed-in = g .consumed-in; window-in = omega arith; maximum-in = g .maximum-in; limit-in = g .limit-in }
+
+-- the three creation numbers are at most M where the test says so
+numbers-in : (limit window maximum : ℕ) → badNumbers limit window maximum ≡ false → (limit ≤ M) × (maximum ≤ M)
+numbers-in limit window maximum e =
+    by-test (ltb M limit)
+    (λ t. let z : _≡_ {A = ℕ} 0 1 = cc (simp t at e) in absurd (omega arith))
+    (λ t. by-test (ltb M window)
+    (λ u. let z : _≡_ {A = ℕ} 0 1 = cc (simp (t, u) at e) in absurd (omega arith))
+    (λ u. (ltb-false M limit t, ltb-false M maximum (simp (t, u) at e))))
+
+-- ---- the calls
+
+pub created-good : (limit window maximum : ℕ) → Good (created limit window maximum .flow)
+created-good limit window maximum =
+    cond-elim (λ (r : Outcome). Good (r .flow)) (badNumbers limit window maximum)
+    (λ _. fresh-good 0 0 0 (omega arith) (omega arith))
+    (λ e. let h = numbers-in limit window maximum e in fresh-good limit window maximum (h .0) (h .1))
+
+pub consumedMore-good : (f : FlowControl) (n : ℕ) → Good f → Good (consumedMore f n .flow)
+consumedMore-good f n g =
+    cond-elim (λ (r : Outcome). Good (r .flow)) (ltb M (f .consumed + n))
+    (λ _. g)
+    (λ e. consumed-good f (f .consumed + n) (ltb-false M (f .consumed + n) e) g)
+
+pub committed-good : (f : FlowControl) (now : ℕ) → Good f → Good (committed f now)
+committed-good f now g =
+    record { consumed-in = g .consumed-in; window-in = g .window-in; maximum-in = g .maximum-in; limit-in = omega (arith, g .consumed-in, g .window-in, g .maximum-in) }
+
+pub autotuned-good : (f : FlowControl) (now rtt : ℕ) → Good f → Good (autotuned f now rtt)
+autotuned-good f now rtt g = cond-elim Good (recent (f .«last_update») now rtt) (λ _. window-good f (2 * f .window) g) (λ _. g)
+
+pub atLeast-good : (f : FlowControl) (n : ℕ) → Good f → Good (atLeast f n .flow)
+atLeast-good f n g =
+    cond-elim (λ (r : Outcome). Good (r .flow)) (ltb M n)
+    (λ _. g)
+    (λ _. cond-elim Good (ltb (f .window) n) (λ _. window-good f n g) (λ _. g))

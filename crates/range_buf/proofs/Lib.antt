@@ -1,0 +1,3 @@
+-- The laws of a chunk, which callers cite.
+pub mod Kept
+pub mod Unique

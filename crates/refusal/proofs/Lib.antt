@@ -1,0 +1,2 @@
+-- The laws of the vocabulary.
+pub mod Unique
