@@ -10,6 +10,7 @@ ghost use Rattle.range_buf.specs.Rules.{start, end, avail, isEmpty, crea
 use refusal::Answer;
 use refusal::Refusal;
 
+#[repr(C)]
 pub struct RangeBuf {
     // The stream offset of the first byte, consumed or not.
     pub off: u64,

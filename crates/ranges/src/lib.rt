@@ -17,11 +17,13 @@ use refusal::OptionU64;
 use refusal::Refusal;
 
 // The numbers from `start` to before `end`.
+#[repr(C)]
 pub struct Range {
     pub start: u64,
     pub end: u64,
 }
 
+#[repr(C)]
 pub struct RangeSet {
     // The ranges, in the first `count` places; zero behind them.
     pub inner: [Range; 64],

@@ -1,2 +1,3 @@
 -- The laws of the vocabulary.
+pub mod Chain
 pub mod Unique

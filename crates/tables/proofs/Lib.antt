@@ -1,2 +1,3 @@
--- The laws of tables, which the proofs of every crate with a table cite.
+-- The laws of tables and of tests, which the proofs of every crate cite.
 pub mod Tables
+pub mod Tests
