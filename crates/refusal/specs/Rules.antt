@@ -1,7 +1,8 @@
 -- The numbered refusals of document 01 ("Numbered refusals"), what each kind of answer says in its numbers, and the largest offset ("Sizes").
-use mathlib.Core.Bool.{cond}
+use mathlib.Core.Bool.{Bool, true, false, cond, not}
 use mathlib.Core.List.{List, [], _∷_}
 use Prim.Native.Nat.{ℕ, _-_, _^_}
+use lib.Dec.{eqb}
 use Rattle.refusal.specs.declared.Refusal.{Refusal}
 use Rattle.refusal.specs.declared.Refusal.the-variants.{Offset, Stopped, FinalSize, FlowControl, NoRoom, TableFull, NeverSent, Done, Reset, BadSetup}
 use Rattle.refusal.specs.declared.Answer.{Answer}
@@ -77,7 +78,38 @@ abbrev pub toldSizes : SizesAnswer → Told
 toldSizes (Sizes a b) = success (a ∷ b ∷ [])
 toldSizes (NoSizes why) = refusal why
 
--- a plain answer with a count: a refusal goes up under its own number
+-- a plain answer with its numbers: a refusal goes up under its own number
 abbrev pub withCount : Answer → ℕ → CountAnswer
 withCount Ok n = Count n
 withCount (Refused why) n = NoCount why
+
+abbrev pub withBytes : Answer → ℕ → Bool → EmitAnswer
+withBytes Ok n fin = Emitted n fin
+withBytes (Refused why) n fin = NoBytes why
+
+abbrev pub withSizes : Answer → ℕ → ℕ → SizesAnswer
+withSizes Ok a b = Sizes a b
+withSizes (Refused why) a b = NoSizes why
+
+-- x after a success, and y after a refusal
+abbrev pub after : {A : Type 0} → Answer → A → A → A
+after Ok x y = x
+after (Refused why) x y = y
+
+-- a number that may be missing: is it known; known and n; known and another
+abbrev pub known : OptionU64 → Bool
+known None = false
+known (Some n) = true
+
+abbrev pub isAt : OptionU64 → ℕ → Bool
+isAt None n = false
+isAt (Some m) n = eqb m n
+
+abbrev pub isOther : OptionU64 → ℕ → Bool
+isOther None n = false
+isOther (Some m) n = not (eqb m n)
+
+-- the final size, once a mark was accepted at e
+abbrev pub finWith : OptionU64 → ℕ → Bool → OptionU64
+finWith f e true = Some e
+finWith f e false = f

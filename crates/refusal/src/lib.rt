@@ -6,7 +6,7 @@
 ghost use mathlib.Core.Path.{_≡_};
 ghost use Prim.Native.Nat.{_+_, _-_, _≤_, min, max};
 ghost use lib.Dec.{ltb};
-ghost use Rattle.refusal.specs.Rules.{M, numberOf, codeOf, told, toldCount, toldEmit, toldSizes, withCount};
+ghost use Rattle.refusal.specs.Rules.{M, numberOf, codeOf, told, toldCount, toldEmit, toldSizes, withCount, withBytes, withSizes, known, isAt, isOther};
 
 // The largest stream offset, 2^62 - 1 (RFC 9000, 19.8).
 pub const M: u64 = 0x3fff_ffff_ffff_ffff;
@@ -110,6 +110,57 @@ impl Answer {
         match self {
             Answer::Done => CountAnswer::Count(count),
             Answer::Refused(why) => CountAnswer::Refused(why),
+        }
+    }
+
+    // The same with a count of bytes and an end mark.
+    pub fn with_bytes(self, count: u64, fin: bool) -> EmitAnswer
+        ensures { λ r. ⌜ r ≡ withBytes self count fin ⌝ }
+    {
+        match self {
+            Answer::Done => EmitAnswer::Emitted(count, fin),
+            Answer::Refused(why) => EmitAnswer::Refused(why),
+        }
+    }
+
+    // The same with two sizes.
+    pub fn with_sizes(self, first: u64, second: u64) -> SizesAnswer
+        ensures { λ r. ⌜ r ≡ withSizes self first second ⌝ }
+    {
+        match self {
+            Answer::Done => SizesAnswer::Sizes(first, second),
+            Answer::Refused(why) => SizesAnswer::Refused(why),
+        }
+    }
+}
+
+impl OptionU64 {
+    pub fn is_known(self) -> bool
+        ensures { λ r. ⌜ r ≡ known self ⌝ }
+    {
+        match self {
+            OptionU64::None => false,
+            OptionU64::Some(_) => true,
+        }
+    }
+
+    // Is it known, and n?
+    pub fn is_at(self, n: u64) -> bool
+        ensures { λ r. ⌜ r ≡ isAt self n ⌝ }
+    {
+        match self {
+            OptionU64::None => false,
+            OptionU64::Some(m) => m == n,
+        }
+    }
+
+    // Is it known, and another number than n?
+    pub fn is_other(self, n: u64) -> bool
+        ensures { λ r. ⌜ r ≡ isOther self n ⌝ }
+    {
+        match self {
+            OptionU64::None => false,
+            OptionU64::Some(m) => m != n,
         }
     }
 }
