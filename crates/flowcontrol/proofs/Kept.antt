@@ -15,11 +15,12 @@ use Rattle.flowcontrol.specs.Rules.{fresh, badNumbers, created, withCons
 pub fresh-good : (limit window maximum : ℕ) → limit ≤ M → maximum ≤ M → Good (fresh limit window maximum)
 fresh-good limit window maximum l m = record { consumed-in = omega arith; window-in = omega arith; maximum-in = m; limit-in = omega arith }
 
-pub consumed-good : (f : FlowControl) (n : ℕ) → n ≤ M → Good f → Good (withConsumed f n)
-consumed-good f n h g = record { consumed-in = h; window-in = g .window-in; maximum-in = g .maximum-in; limit-in = g .limit-in }
+module _ (f : FlowControl) (g : Good f) where
+  pub consumed-good : (n : ℕ) → n ≤ M → Good (withConsumed f n)
+  consumed-good n h = record { consumed-in = h; window-in = g .window-in; maximum-in = g .maximum-in; limit-in = g .limit-in }
 
-pub window-good : (f : FlowControl) (n : ℕ) → Good f → Good (withWindow f n)
-window-good f n g = record { consumed-in = g .consumed-in; window-in = omega arith; maximum-in = g .maximum-in; limit-in = g .limit-in }
+  pub window-good : (n : ℕ) → Good (withWindow f n)
+  window-good n = record { consumed-in = g .consumed-in; window-in = omega arith; maximum-in = g .maximum-in; limit-in = g .limit-in }
 
 -- the three creation numbers are at most M where the test says so
 numbers-in : (limit window maximum : ℕ) → badNumbers limit window maximum ≡ false → (limit ≤ M) × (maximum ≤ M)
@@ -38,21 +39,22 @@ created-good limit window maximum =
     (λ _. fresh-good 0 0 0 (omega arith) (omega arith))
     (λ e. let h = numbers-in limit window maximum e in fresh-good limit window maximum (h .0) (h .1))
 
-pub consumedMore-good : (f : FlowControl) (n : ℕ) → Good f → Good (consumedMore f n .flow)
-consumedMore-good f n g =
-    cond-elim (λ (r : Outcome). Good (r .flow)) (ltb M (f .consumed + n))
-    (λ _. g)
-    (λ e. consumed-good f (f .consumed + n) (ltb-false M (f .consumed + n) e) g)
+module _ (f : FlowControl) (g : Good f) where
+  pub consumedMore-good : (n : ℕ) → Good (consumedMore f n .flow)
+  consumedMore-good n =
+      cond-elim (λ (r : Outcome). Good (r .flow)) (ltb M (f .consumed + n))
+      (λ _. g)
+      (λ e. consumed-good f g (f .consumed + n) (ltb-false M (f .consumed + n) e))
 
-pub committed-good : (f : FlowControl) (now : ℕ) → Good f → Good (committed f now)
-committed-good f now g =
-    record { consumed-in = g .consumed-in; window-in = g .window-in; maximum-in = g .maximum-in; limit-in = omega (arith, g .consumed-in, g .window-in, g .maximum-in) }
+  pub committed-good : (now : ℕ) → Good (committed f now)
+  committed-good now =
+      record { consumed-in = g .consumed-in; window-in = g .window-in; maximum-in = g .maximum-in; limit-in = omega (arith, g .consumed-in, g .window-in, g .maximum-in) }
 
-pub autotuned-good : (f : FlowControl) (now rtt : ℕ) → Good f → Good (autotuned f now rtt)
-autotuned-good f now rtt g = cond-elim Good (recent (f .«last_update») now rtt) (λ _. window-good f (2 * f .window) g) (λ _. g)
+  pub autotuned-good : (now rtt : ℕ) → Good (autotuned f now rtt)
+  autotuned-good now rtt = cond-elim Good (recent (f .«last_update») now rtt) (λ _. window-good f g (2 * f .window)) (λ _. g)
 
-pub atLeast-good : (f : FlowControl) (n : ℕ) → Good f → Good (atLeast f n .flow)
-atLeast-good f n g =
-    cond-elim (λ (r : Outcome). Good (r .flow)) (ltb M n)
-    (λ _. g)
-    (λ _. cond-elim Good (ltb (f .window) n) (λ _. window-good f n g) (λ _. g))
+  pub atLeast-good : (n : ℕ) → Good (atLeast f n .flow)
+  atLeast-good n =
+      cond-elim (λ (r : Outcome). Good (r .flow)) (ltb M n)
+      (λ _. g)
+      (λ _. cond-elim Good (ltb (f .window) n) (λ _. window-good f g n) (λ _. g))
