@@ -5,8 +5,8 @@ use Prim.Native.Nat.{ℕ}
 use Rattle.tables.proofs.Tables.{no-second}
 use Rattle.arena.specs.Rules.{kept, handed}
 
-pub keep-one : (a : List ℕ) (o : ℕ) (bs p q : List ℕ) → p ≡ kept a o bs → q ≡ kept a o bs → p ≡ q
-keep-one a o bs = no-second
+pub keep-unique : (a : List ℕ) (o : ℕ) (bs p q : List ℕ) → p ≡ kept a o bs → q ≡ kept a o bs → p ≡ q
+keep-unique a o bs = no-second
 
-pub hand-one : (a : List ℕ) (o : ℕ) (out p q : List ℕ) → p ≡ handed a o out → q ≡ handed a o out → p ≡ q
-hand-one a o out = no-second
+pub hand-unique : (a : List ℕ) (o : ℕ) (out p q : List ℕ) → p ≡ handed a o out → q ≡ handed a o out → p ≡ q
+hand-unique a o out = no-second

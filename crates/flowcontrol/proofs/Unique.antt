@@ -7,32 +7,32 @@ use Rattle.flowcontrol.specs.declared.FlowControl.{FlowControl}
 use Rattle.flowcontrol.specs.declared.Outcome.{Outcome}
 use Rattle.flowcontrol.specs.Rules.{created, consumedMore, due, next, committed, autotuned, atLeast}
 
-pub new-one : (limit window maximum : ℕ) (p q : Outcome) → p ≡ created limit window maximum → q ≡ created limit window maximum → p ≡ q
-new-one limit window maximum = no-second
+pub new-unique : (limit window maximum : ℕ) (p q : Outcome) → p ≡ created limit window maximum → q ≡ created limit window maximum → p ≡ q
+new-unique limit window maximum = no-second
 
-pub window-one : (f : FlowControl) (p q : ℕ) → p ≡ f .window → q ≡ f .window → p ≡ q
-window-one f = no-second
+pub window-unique : (f : FlowControl) (p q : ℕ) → p ≡ f .window → q ≡ f .window → p ≡ q
+window-unique f = no-second
 
-pub max-data-one : (f : FlowControl) (p q : ℕ) → p ≡ f .«max_data» → q ≡ f .«max_data» → p ≡ q
-max-data-one f = no-second
+pub max-data-unique : (f : FlowControl) (p q : ℕ) → p ≡ f .«max_data» → q ≡ f .«max_data» → p ≡ q
+max-data-unique f = no-second
 
-pub consumed-one : (f : FlowControl) (p q : ℕ) → p ≡ f .consumed → q ≡ f .consumed → p ≡ q
-consumed-one f = no-second
+pub consumed-unique : (f : FlowControl) (p q : ℕ) → p ≡ f .consumed → q ≡ f .consumed → p ≡ q
+consumed-unique f = no-second
 
-pub add-consumed-one : (f : FlowControl) (n : ℕ) (p q : Outcome) → p ≡ consumedMore f n → q ≡ consumedMore f n → p ≡ q
-add-consumed-one f n = no-second
+pub add-consumed-unique : (f : FlowControl) (n : ℕ) (p q : Outcome) → p ≡ consumedMore f n → q ≡ consumedMore f n → p ≡ q
+add-consumed-unique f n = no-second
 
-pub should-update-max-data-one : (f : FlowControl) (p q : Bool) → p ≡ due f → q ≡ due f → p ≡ q
-should-update-max-data-one f = no-second
+pub should-update-max-data-unique : (f : FlowControl) (p q : Bool) → p ≡ due f → q ≡ due f → p ≡ q
+should-update-max-data-unique f = no-second
 
-pub max-data-next-one : (f : FlowControl) (p q : ℕ) → p ≡ next f → q ≡ next f → p ≡ q
-max-data-next-one f = no-second
+pub max-data-next-unique : (f : FlowControl) (p q : ℕ) → p ≡ next f → q ≡ next f → p ≡ q
+max-data-next-unique f = no-second
 
-pub update-max-data-one : (f : FlowControl) (now : ℕ) (p q : FlowControl) → p ≡ committed f now → q ≡ committed f now → p ≡ q
-update-max-data-one f now = no-second
+pub update-max-data-unique : (f : FlowControl) (now : ℕ) (p q : FlowControl) → p ≡ committed f now → q ≡ committed f now → p ≡ q
+update-max-data-unique f now = no-second
 
-pub autotune-window-one : (f : FlowControl) (now rtt : ℕ) (p q : FlowControl) → p ≡ autotuned f now rtt → q ≡ autotuned f now rtt → p ≡ q
-autotune-window-one f now rtt = no-second
+pub autotune-window-unique : (f : FlowControl) (now rtt : ℕ) (p q : FlowControl) → p ≡ autotuned f now rtt → q ≡ autotuned f now rtt → p ≡ q
+autotune-window-unique f now rtt = no-second
 
-pub ensure-window-lower-bound-one : (f : FlowControl) (n : ℕ) (p q : Outcome) → p ≡ atLeast f n → q ≡ atLeast f n → p ≡ q
-ensure-window-lower-bound-one f n = no-second
+pub ensure-window-lower-bound-unique : (f : FlowControl) (n : ℕ) (p q : Outcome) → p ≡ atLeast f n → q ≡ atLeast f n → p ≡ q
+ensure-window-lower-bound-unique f n = no-second

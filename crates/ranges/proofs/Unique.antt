@@ -17,35 +17,35 @@ use Rattle.ranges.proofs.Good.{is-set}
 pub same : (s t : RangeSet) → Good s → Good t → s .capacity ≡ t .capacity → ranges s ≡ ranges t → s ≡ t
 same s t g h c r = is-set s g ∙ ap₂ setOf c r ∙ sym (is-set t h)
 
-pub new-one : (cap : ℕ) (p q : Outcome) → p ≡ created cap → q ≡ created cap → p ≡ q
-new-one cap = no-second
+pub new-unique : (cap : ℕ) (p q : Outcome) → p ≡ created cap → q ≡ created cap → p ≡ q
+new-unique cap = no-second
 
-pub len-one : (s : RangeSet) (p q : ℕ) → p ≡ length (ranges s) → q ≡ length (ranges s) → p ≡ q
-len-one s = no-second
+pub len-unique : (s : RangeSet) (p q : ℕ) → p ≡ length (ranges s) → q ≡ length (ranges s) → p ≡ q
+len-unique s = no-second
 
-pub contains-one : (s : RangeSet) (v : ℕ) (p q : Bool) → p ≡ memberOf v (ranges s) → q ≡ memberOf v (ranges s) → p ≡ q
-contains-one s v = no-second
+pub contains-unique : (s : RangeSet) (v : ℕ) (p q : Bool) → p ≡ memberOf v (ranges s) → q ≡ memberOf v (ranges s) → p ≡ q
+contains-unique s v = no-second
 
-pub get-one : (s : RangeSet) (i : ℕ) (p q : OptionRange) → p ≡ rangeAt i (ranges s) → q ≡ rangeAt i (ranges s) → p ≡ q
-get-one s i = no-second
+pub get-unique : (s : RangeSet) (i : ℕ) (p q : OptionRange) → p ≡ rangeAt i (ranges s) → q ≡ rangeAt i (ranges s) → p ≡ q
+get-unique s i = no-second
 
-pub first-one : (s : RangeSet) (p q : OptionU64) → p ≡ firstOf (ranges s) → q ≡ firstOf (ranges s) → p ≡ q
-first-one s = no-second
+pub first-unique : (s : RangeSet) (p q : OptionU64) → p ≡ firstOf (ranges s) → q ≡ firstOf (ranges s) → p ≡ q
+first-unique s = no-second
 
-pub last-one : (s : RangeSet) (p q : OptionU64) → p ≡ lastOf (ranges s) → q ≡ lastOf (ranges s) → p ≡ q
-last-one s = no-second
+pub last-unique : (s : RangeSet) (p q : OptionU64) → p ≡ lastOf (ranges s) → q ≡ lastOf (ranges s) → p ≡ q
+last-unique s = no-second
 
-pub eq-one : (s : RangeSet) (x : Range) (p q : Bool) → p ≡ isSingle x (ranges s) → q ≡ isSingle x (ranges s) → p ≡ q
-eq-one s x = no-second
+pub eq-unique : (s : RangeSet) (x : Range) (p q : Bool) → p ≡ isSingle x (ranges s) → q ≡ isSingle x (ranges s) → p ≡ q
+eq-unique s x = no-second
 
-pub insert-one : (s : RangeSet) (x : Range) (p q : Outcome) → p ≡ inserted s x → q ≡ inserted s x → p ≡ q
-insert-one s x = no-second
+pub insert-unique : (s : RangeSet) (x : Range) (p q : Outcome) → p ≡ inserted s x → q ≡ inserted s x → p ≡ q
+insert-unique s x = no-second
 
-pub try-insert-one : (s : RangeSet) (x : Range) (p q : Outcome) → p ≡ tried s x → q ≡ tried s x → p ≡ q
-try-insert-one s x = no-second
+pub try-insert-unique : (s : RangeSet) (x : Range) (p q : Outcome) → p ≡ tried s x → q ≡ tried s x → p ≡ q
+try-insert-unique s x = no-second
 
-pub push-item-one : (s : RangeSet) (v : ℕ) (p q : Outcome) → p ≡ pushed s v → q ≡ pushed s v → p ≡ q
-push-item-one s v = no-second
+pub push-item-unique : (s : RangeSet) (v : ℕ) (p q : Outcome) → p ≡ pushed s v → q ≡ pushed s v → p ≡ q
+push-item-unique s v = no-second
 
-pub remove-until-one : (s : RangeSet) (v : ℕ) (p q : RangeSet) → p ≡ removed s v → q ≡ removed s v → p ≡ q
-remove-until-one s v = no-second
+pub remove-until-unique : (s : RangeSet) (v : ℕ) (p q : RangeSet) → p ≡ removed s v → q ≡ removed s v → p ≡ q
+remove-until-unique s v = no-second
