@@ -1,0 +1,15 @@
+-- The proof of demand 3 (`Demand3`), and schedules that show that it is not empty (`Runs`) and that its premises are needed (`Needed`).
+pub mod Callable
+pub mod Lists
+pub mod Stream
+pub mod SendSide
+pub mod RecvSide
+pub mod Joined
+pub mod Demand3
+pub mod Runs
+pub mod Needed
+pub mod Cuts
+pub mod Table
+pub mod Ends
+pub mod NoStall
+mod StallRuns
