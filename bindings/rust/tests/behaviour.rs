@@ -1,0 +1,113 @@
+//! The worked examples of document 01, and what a stream's user relies on, through the safe types.
+
+use valemkhor::FlowControl;
+use valemkhor::RangeBuf;
+use valemkhor::RangeSet;
+use valemkhor::RecvBuf;
+use valemkhor::Refusal;
+use valemkhor::SendBuf;
+
+#[test]
+fn a_shortened_write_drops_its_mark_and_an_empty_one_sets_it() {
+    let mut send = SendBuf::new(10, 64).unwrap();
+    assert_eq!(send.write(&[7; 15], true), Ok(10));
+    assert!(!send.is_fin());
+    assert_eq!(send.write(b"", true), Ok(0));
+    assert!(send.is_fin());
+    assert_eq!(send.write(b"", false), Err(Refusal::FinalSize));
+}
+
+#[test]
+fn a_loss_is_answered_with_what_moves_back() {
+    let mut send = SendBuf::new(20, 64).unwrap();
+    let mut out = [0; 10];
+    send.write(b"abcdefghij", false).unwrap();
+    assert_eq!(send.emit(&mut out[..4]), Ok((4, false)));
+    assert_eq!(send.emit(&mut out[..4]), Ok((4, false)));
+    assert_eq!(send.retransmit(2, 3), Ok(3));
+    assert_eq!((send.bufs_count(), send.buffered_bytes(), send.off_front()), (2, 5, 2));
+    assert_eq!(send.emit(&mut out), Ok((3, false)));
+    assert_eq!((&out[..3], send.off_front()), (&b"cde"[..], 8));
+    assert_eq!(send.emit(&mut out), Ok((2, false)));
+    assert_eq!(&out[..2], b"ij");
+}
+
+#[test]
+fn a_stream_of_no_bytes_is_complete_only_once_acked() {
+    let mut send = SendBuf::new(0, 1).unwrap();
+    send.write(b"", true).unwrap();
+    assert!(!send.is_complete());
+    assert_eq!(send.emit(&mut []), Ok((0, true)));
+    send.ack(0, 0).unwrap();
+    assert!(send.is_complete());
+}
+
+#[test]
+fn the_first_arrival_stays() {
+    let mut recv = RecvBuf::new(100, 100, 64).unwrap();
+    recv.write(5, b"56789", false).unwrap();
+    recv.write(0, b"abcdefg", false).unwrap();
+    let mut out = [0; 16];
+    assert_eq!(recv.emit(&mut out), Ok((10, false)));
+    assert_eq!(&out[..10], b"abcde56789");
+}
+
+#[test]
+fn a_final_size_is_final() {
+    let mut recv = RecvBuf::new(100, 100, 64).unwrap();
+    recv.write(10, b"", true).unwrap();
+    assert_eq!(recv.write(9, b"ab", false), Err(Refusal::FinalSize));
+}
+
+#[test]
+fn a_reset_is_told_once() {
+    let mut recv = RecvBuf::new(12, 12, 64).unwrap();
+    recv.write(0, &[1; 10], false).unwrap();
+    assert_eq!(recv.discard(4), Ok((4, false)));
+    assert_eq!(recv.reset(7, 8), Err(Refusal::FinalSize));
+    assert_eq!(recv.reset(7, 12), Ok((2, 8)));
+    assert_eq!(recv.reset(7, 12), Ok((0, 0)));
+    assert_eq!(recv.emit(&mut [0; 4]), Err(Refusal::Reset(7)));
+    assert_eq!(recv.emit(&mut [0; 4]), Err(Refusal::Done));
+}
+
+#[test]
+fn a_lent_arena_has_its_own_length_as_limit() {
+    let mut arena = [0; 8];
+    let mut recv = RecvBuf::with_arena(100, 100, &mut arena).unwrap();
+    assert_eq!(recv.write(0, &[1; 9], false), Err(Refusal::NoRoom));
+    assert_eq!(recv.write(0, &[1; 8], false), Ok(()));
+}
+
+#[test]
+fn creation_refuses_what_no_buffer_can_have() {
+    assert_eq!(SendBuf::new(0, 0).err(), Some(Refusal::BadSetup));
+    assert_eq!(SendBuf::new(0, 65537).err(), Some(Refusal::BadSetup));
+    assert_eq!(SendBuf::new(1 << 62, 1).err(), Some(Refusal::BadSetup));
+    assert_eq!(RecvBuf::new(0, 1 << 62, 1).err(), Some(Refusal::BadSetup));
+    assert_eq!(RangeSet::new(65).err(), Some(Refusal::BadSetup));
+    assert_eq!(RangeBuf::from(1 << 62, 0).err(), Some(Refusal::Offset));
+}
+
+#[test]
+fn a_full_set_loses_its_lowest_range_or_says_so() {
+    let mut set = RangeSet::new(2).unwrap();
+    set.insert(10..12).unwrap();
+    set.insert(20..22).unwrap();
+    assert_eq!(set.try_insert(0..1), Err(Refusal::TableFull));
+    let mut joined = set;
+    joined.insert(12..20).unwrap();
+    assert!(joined == (10..22));
+    set.insert(0..1).unwrap();
+    assert_eq!(set.iter().collect::<Vec<_>>(), vec![0..1, 20..22]);
+}
+
+#[test]
+fn the_window_doubles_within_two_round_trips() {
+    let mut flow = FlowControl::new(16, 16, 24).unwrap();
+    flow.update_max_data(100);
+    let mut late = flow;
+    flow.autotune_window(119, 10);
+    late.autotune_window(120, 10);
+    assert_eq!((flow.window(), late.window()), (24, 16));
+}

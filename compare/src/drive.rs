@@ -1,0 +1,490 @@
+//! Holds the port beside quiche: `drive PORT ORACLE SECONDS SEED`.
+//!
+//! Both programs speak the call script. Each call goes to the port first. What the port refuses by a refusal that quiche does
+//! not have, and what stands in a row of docs/DIFFERENCES.md, does not reach quiche; every other answer, and the whole state
+//! after it, must be the same text. First every short sequence over small alphabets, then random sequences around every
+//! boundary for the time given. A difference in no row is shrunk, printed, and the exit status is 1.
+
+use std::collections::BTreeMap;
+use std::io::BufRead;
+use std::io::BufReader;
+use std::io::Write;
+use std::process::Child;
+use std::process::ChildStdin;
+use std::process::ChildStdout;
+use std::process::Command;
+use std::process::Stdio;
+use std::time::Duration;
+use std::time::Instant;
+
+const M: u64 = (1 << 62) - 1;
+const TOP: u64 = u64::MAX;
+
+/// One of the two programs, fed a line at a time.
+struct Side {
+    _child: Child,
+    to: ChildStdin,
+    from: BufReader<ChildStdout>,
+}
+
+impl Side {
+    fn start(path: &str) -> Side {
+        let mut child = Command::new(path)
+            .stdin(Stdio::piped())
+            .stdout(Stdio::piped())
+            .spawn()
+            .unwrap_or_else(|e| panic!("{path}: {e}"));
+        let (to, from) = (child.stdin.take().unwrap(), BufReader::new(child.stdout.take().unwrap()));
+        Side { _child: child, to, from }
+    }
+
+    fn ask(&mut self, line: &str) -> String {
+        self.to.write_all(line.as_bytes()).unwrap();
+        self.to.write_all(b"\n").unwrap();
+        let mut said = String::new();
+        self.from.read_line(&mut said).unwrap();
+        said.trim_end().to_string()
+    }
+}
+
+/// A small generator of numbers (xorshift), so that a seed gives the same run everywhere.
+struct Dice(u64);
+
+impl Dice {
+    fn next(&mut self) -> u64 {
+        self.0 ^= self.0 << 13;
+        self.0 ^= self.0 >> 7;
+        self.0 ^= self.0 << 17;
+        self.0
+    }
+
+    fn below(&mut self, n: u64) -> u64 {
+        self.next() % n.max(1)
+    }
+
+    fn one_in(&mut self, n: u64) -> bool {
+        self.below(n) == 0
+    }
+
+    fn pick<T: Clone>(&mut self, from: &[T]) -> T {
+        from[self.below(from.len() as u64) as usize].clone()
+    }
+
+    /// A number near one of some places: at it, one below, one above, a little off.
+    fn near(&mut self, places: &[u64]) -> u64 {
+        let at = self.pick(places);
+        match self.below(6) {
+            0 => at.saturating_sub(1),
+            1 => at.saturating_add(1),
+            2 => at.saturating_sub(self.below(9)),
+            3 => at.saturating_add(self.below(9)),
+            _ => at,
+        }
+    }
+}
+
+/// A number of a state line: `off=12` of `.. off=12 ..`.
+fn field(state: &str, name: &str) -> Option<u64> {
+    state.split(' ').find_map(|w| w.strip_prefix(name)?.strip_prefix('=')).and_then(|v| v.parse().ok())
+}
+
+fn is_set(state: &str, name: &str) -> bool {
+    state.contains(&format!(" {name}=")) && !state.contains(&format!(" {name}=-"))
+}
+
+/// The ranges of a range set's state line; none of another object's.
+fn ranges(state: &str) -> Vec<(u64, u64)> {
+    let Some(inner) = state.strip_prefix('[').and_then(|s| s.strip_suffix(']')) else { return Vec::new() };
+    let pair = |w: &str| w.split_once('-').and_then(|(a, b)| Some((a.parse().ok()?, b.parse().ok()?)));
+    inner.split(',').filter_map(pair).collect()
+}
+
+/// What the comparison knows of quiche's range set that no answer shows: which of its two forms it has, and its capacity.
+#[derive(Default)]
+struct Form {
+    tree: bool,
+    capacity: u64,
+}
+
+/// The row of docs/DIFFERENCES.md that a call stands in, by the port's state before it and its answer; and whether the two
+/// objects are the same after it, so that the sequence can go on.
+fn row(line: &str, before: &str, said: &str, after: &str, form: &Form) -> Option<(&'static str, bool)> {
+    let words: Vec<&str> = line.split(' ').collect();
+    let n = |i: usize| words.get(i).and_then(|w| w.parse::<u64>().ok()).unwrap_or(0);
+    let (call, held) = (words[0], ranges(before));
+    let inserts = match call {
+        "rs.insert" => Some((n(1), n(2))),
+        "rs.push_item" => Some((n(1), n(1).saturating_add(1))),
+        _ => None,
+    };
+    if let Some((s, e)) = inserts {
+        let joins = held.iter().any(|r| r.0 <= e && s <= r.1);
+        let lowest = held.first().is_some_and(|r| e < r.0);
+        if !form.tree && !joins && lowest && held.len() as u64 == form.capacity {
+            return Some(("D-11 a full inline set given a lowest range", false));
+        }
+    }
+    match call {
+        "rs.remove_until" if form.tree && n(1) == TOP => Some(("D-10 remove_until(2^64 - 1)", false)),
+        "rs.remove_until" if !form.tree && ranges(after).first().is_some_and(|r| r.0 == r.1) => {
+            Some(("D-12 the inline form drops an empty first range", false))
+        }
+        "rs.last" if held.last().is_some_and(|r| r.1 == 0) => Some(("D-13 last of 0..0", true)),
+        "fc.should_update" | "r.get" if field(before, "consumed") > field(before, "limit") => {
+            Some(("D-20 consumed above the limit", true))
+        }
+        "r.reset" if said == "no 4" => Some(("D-30 a reset over the limit", true)),
+        "r.write" if said == "ok" && words[2] == "x" && words[3] == "0" && Some(n(1)) > field(before, "len") => {
+            Some(("D-31 a frame without bytes or mark ahead of len", true))
+        }
+        "r.reset" if said.starts_with("ok") && is_set(before, "fin") && !is_set(before, "err") && field(before, "drain") == Some(0) => {
+            Some(("D-32 a first reset with F known", false))
+        }
+        _ => None,
+    }
+}
+
+/// A refusal that quiche does not have.
+fn added(said: &str) -> bool {
+    ["no 1", "no 5", "no 6", "no 7", "no 10"].contains(&said)
+}
+
+struct Difference {
+    port: String,
+    oracle: String,
+}
+
+struct Compare {
+    port: Side,
+    oracle: Side,
+    calls: BTreeMap<String, u64>,
+    refused: BTreeMap<String, u64>,
+    rows: BTreeMap<&'static str, u64>,
+    compared: u64,
+}
+
+impl Compare {
+    fn begin(&mut self) {
+        self.port.ask("seq x");
+        self.oracle.ask("seq x");
+    }
+
+    /// One call to both sides. `None`: the sequence can go on; `Some(None)`: it ends here; else a difference.
+    fn call(&mut self, line: &str, before: &mut String, form: &mut Form) -> Option<Option<Difference>> {
+        let port = self.port.ask(line);
+        let (said, after) = port.split_once(" | ").map(|(a, b)| (a.to_string(), b.to_string())).unwrap_or_default();
+        let name = line.split(' ').next().unwrap();
+        *self.calls.entry(name.into()).or_default() += 1;
+        if let Some((row, goes_on)) = row(line, before, &said, &after, form) {
+            *self.rows.entry(row).or_default() += 1;
+            *before = after;
+            return if goes_on { None } else { Some(None) };
+        }
+        if added(&said) {
+            *self.refused.entry(format!("{name} {said}")).or_default() += 1;
+            return if after == *before || name.ends_with("new") {
+                None
+            } else {
+                Some(Some(Difference { port, oracle: format!("(a refusal, after which the state is to be {before})") }))
+            };
+        }
+        let oracle = self.oracle.ask(line);
+        self.compared += 1;
+        if port != oracle {
+            return Some(Some(Difference { port, oracle }));
+        }
+        if name == "rs.new" {
+            *form = Form { tree: false, capacity: line[7..].parse().unwrap_or(0) };
+        } else if name.starts_with("rs.") {
+            let held = ranges(&after).len();
+            form.tree = if form.tree { held > 2 } else { held == 4 };
+        }
+        *before = after;
+        None
+    }
+
+    /// A whole sequence, given call by call; the calls up to a difference, and the difference.
+    fn sequence(&mut self, mut next: impl FnMut(&str) -> Option<String>) -> Option<(Vec<String>, Difference)> {
+        self.begin();
+        let (mut done, mut before, mut form) = (Vec::new(), "-".to_string(), Form::default());
+        while let Some(line) = next(&before) {
+            done.push(line.clone());
+            match self.call(&line, &mut before, &mut form) {
+                None => {}
+                Some(None) => return None,
+                Some(Some(difference)) => return Some((done, difference)),
+            }
+        }
+        None
+    }
+
+    fn replay(&mut self, lines: &[String]) -> Option<(Vec<String>, Difference)> {
+        let mut at = 0;
+        self.sequence(|_| {
+            at += 1;
+            lines.get(at - 1).cloned()
+        })
+    }
+
+    /// The smallest sequence with a difference that leaving out calls and lessening numbers finds.
+    fn shrink(&mut self, mut lines: Vec<String>) -> (Vec<String>, Difference) {
+        loop {
+            let mut less = None;
+            for smaller in smaller(&lines) {
+                if let Some((found, _)) = self.replay(&smaller) {
+                    less = Some(found);
+                    break;
+                }
+            }
+            match less {
+                Some(found) => lines = found,
+                None => break,
+            }
+        }
+        let (lines, difference) = self.replay(&lines).expect("the difference is still there");
+        (lines, difference)
+    }
+}
+
+/// The sequences one step smaller: a call left out, or a number made less.
+fn smaller(lines: &[String]) -> Vec<Vec<String>> {
+    let mut all = Vec::new();
+    for i in (1..lines.len()).rev() {
+        let mut less = lines.to_vec();
+        less.remove(i);
+        all.push(less);
+    }
+    for i in 0..lines.len() {
+        let words: Vec<&str> = lines[i].split(' ').collect();
+        for (j, word) in words.iter().enumerate().skip(1) {
+            let mut tries: Vec<String> = Vec::new();
+            if let Ok(n) = word.parse::<u64>() {
+                tries.extend([0, 1, n / 2, n.saturating_sub(1)].iter().filter(|m| **m < n).map(|m| m.to_string()));
+            } else if let Some((n, t)) = word.strip_prefix('p').and_then(|w| w.split_once(':')) {
+                let n: u64 = n.parse().unwrap_or(0);
+                tries.extend([0, 1, n / 2, n.saturating_sub(1)].iter().filter(|m| **m < n).map(|m| format!("p{m}:{t}")));
+            }
+            for less in tries {
+                let mut words: Vec<String> = words.iter().map(|w| w.to_string()).collect();
+                words[j] = less;
+                let mut copy = lines.to_vec();
+                copy[i] = words.join(" ");
+                all.push(copy);
+            }
+        }
+    }
+    all
+}
+
+/// Small alphabets, and a first call for each: every sequence of up to `depth` calls is tried.
+fn alphabets() -> Vec<(&'static str, usize, Vec<&'static str>)> {
+    vec![
+        ("rb.new 3 x0102030405", 4, vec!["rb.consume 0", "rb.consume 2", "rb.consume 6", "rb.split 0 l", "rb.split 2 l", "rb.split 2 r", "rb.split 5 r", "rb.split 6 l", "rb.off", "rb.max_off", "rb.len", "rb.is_empty"]),
+        ("fc.new 16 16 24", 4, vec!["fc.add_consumed 0", "fc.add_consumed 8", "fc.add_consumed 1", "fc.commit 100", "fc.autotune 119 10", "fc.autotune 120 10", "fc.autotune 99 1", "fc.lower_bound 20", "fc.lower_bound 30", "fc.should_update", "fc.next", "fc.window", "fc.max_data"]),
+        ("rs.new 2", 4, vec!["rs.insert 0 0", "rs.insert 1 2", "rs.insert 2 4", "rs.insert 5 5", "rs.insert 6 8", "rs.push_item 4", "rs.remove_until 0", "rs.remove_until 1", "rs.remove_until 5", "rs.contains 2", "rs.last", "rs.eq 1 2", "rs.iter"]),
+        ("rs.new 6", 5, vec!["rs.insert 0 0", "rs.insert 2 3", "rs.insert 5 5", "rs.insert 7 9", "rs.insert 11 12", "rs.insert 1 8", "rs.remove_until 2", "rs.remove_until 8"]),
+        ("s.new 6 8", 4, vec!["s.write x 0", "s.write x 1", "s.write x010203 0", "s.write x0405 1", "s.emit 0", "s.emit 2", "s.emit 9", "s.ack 0 0", "s.ack_and_drop 0 2", "s.ack 2 1", "s.ack_and_drop 0 0", "s.retransmit 0 2", "s.retransmit 1 0", "s.retransmit 1 3", "s.reset", "s.stop 7", "s.shutdown", "s.update_max_data 9", "s.get"]),
+        ("r.new 6 8 8", 4, vec!["r.write 0 x 0", "r.write 0 x 1", "r.write 0 x0102 0", "r.write 1 x030405 0", "r.write 3 x0607 1", "r.write 5 x 1", "r.write 2 x08 0", "r.emit 0", "r.emit 1", "r.emit 9", "r.discard 2", "r.reset 7 5", "r.reset 7 2", "r.shutdown", "r.commit 100", "r.autotune 101 10", "r.readable_len 2", "r.get"]),
+    ]
+}
+
+fn bytes(dice: &mut Dice, n: u64) -> String {
+    if n == 0 {
+        "x".into()
+    } else {
+        format!("p{n}:{}", dice.below(250))
+    }
+}
+
+/// The next random call of an object, by the state that it is in.
+fn call(dice: &mut Dice, object: &str, state: &str) -> String {
+    let at = |name: &str| field(state, name).unwrap_or(0);
+    let mark = |dice: &mut Dice| if dice.one_in(7) { "1" } else { "0" };
+    match object {
+        "rb" => match dice.below(6) {
+            0 | 1 => format!("rb.consume {}", dice.near(&[0, 1, 40])),
+            2 | 3 => format!("rb.split {} {}", dice.near(&[0, 20, 40]), dice.pick(&["l", "r"])),
+            _ => dice.pick(&["rb.off", "rb.max_off", "rb.len", "rb.is_empty"]).into(),
+        },
+        "fc" => match dice.below(9) {
+            0 | 1 => format!("fc.add_consumed {}", dice.near(&[0, at("window") / 2, at("limit"), M])),
+            2 => format!("fc.commit {}", dice.near(&[0, 1000, TOP])),
+            3 | 4 => {
+                let rtt = dice.near(&[0, 10, 1 << 63, TOP]);
+                format!("fc.autotune {} {rtt}", dice.near(&[0, at("last").saturating_add(rtt.saturating_mul(2)), at("last")]))
+            }
+            5 => format!("fc.lower_bound {}", dice.near(&[0, at("window"), at("maximum"), M])),
+            _ => dice.pick(&["fc.should_update", "fc.next", "fc.window", "fc.max_data"]).into(),
+        },
+        "rs" => {
+            let far = if dice.one_in(20) { TOP } else { 0 };
+            let start = dice.near(&[far, 0, 20, 60, 150]);
+            match dice.below(9) {
+                0..=3 => format!("rs.insert {start} {}", start.saturating_add(dice.pick(&[0, 0, 1, 2, 9, 40]))),
+                4 => format!("rs.push_item {start}"),
+                5 => format!("rs.remove_until {}", dice.near(&[0, 5, 30, 150])),
+                6 => format!("rs.contains {start}"),
+                _ => dice.pick(&["rs.len", "rs.last", "rs.iter", "rs.eq 0 20"]).into(),
+            }
+        }
+        "s" => match dice.below(20) {
+            0..=4 => {
+                let n = if dice.one_in(12) { dice.near(&[4096, 8192, 65536]) } else { dice.pick(&[0, 0, 1, 2, 3, 5, 9, 40]) };
+                format!("s.write {} {}", bytes(dice, n), mark(dice))
+            }
+            5..=9 => format!("s.emit {}", dice.pick(&[0, 1, 2, 3, 7, 20, 1200, 5000, 70000])),
+            10..=15 => {
+                let off = dice.near(&[0, 0, at("emitted") / 2, at("emitted")]);
+                let len = dice.near(&[0, 1, at("emitted").saturating_sub(off), at("emitted") / 3]);
+                format!("s.{} {off} {len}", dice.pick(&["ack", "ack_and_drop", "ack_and_drop", "retransmit", "retransmit"]))
+            }
+            16 => format!("s.update_max_data {}", dice.near(&[at("limit"), at("limit").saturating_add(5000), M])),
+            17 if dice.one_in(6) => dice.pick(&["s.reset", "s.stop 7", "s.shutdown"]).into(),
+            18 => dice.pick(&["s.update_blocked_at -", "s.update_blocked_at 5", "s.ack 18446744073709551615 1", "s.write x 1 @7"]).into(),
+            _ => "s.get".into(),
+        },
+        _ => match dice.below(20) {
+            0..=8 => {
+                let n = if dice.one_in(15) { dice.near(&[1200, 4096, 65536]) } else { dice.pick(&[0, 1, 2, 3, 5, 9, 40]) };
+                let ahead = at("off") + dice.below(30);
+                let off = dice.near(&[at("off"), at("len"), ahead, at("limit"), at("len") + 50]);
+                format!("r.write {off} {} {}", bytes(dice, n), mark(dice))
+            }
+            9..=12 => format!("r.emit {}", dice.pick(&[0, 1, 2, 3, 9, 50, 70000])),
+            13 => format!("r.discard {}", dice.pick(&[0, 1, 2, 30, TOP])),
+            14 => format!("r.commit {}", dice.below(1000)),
+            15 => format!("r.autotune {} {}", dice.below(1000), dice.pick(&[0, 1, 100, TOP])),
+            16 => format!("r.readable_len {}", dice.pick(&[0, 1, 5, TOP])),
+            17 if dice.one_in(5) => format!("r.reset 7 {}", dice.near(&[at("len"), at("limit")])),
+            18 if dice.one_in(8) => "r.shutdown".into(),
+            18 => dice.pick(&["r.fc.add_consumed 3", "r.fc.lower_bound 90", "r.write 18446744073709551615 x01 0", "r.emit 3 @9"]).into(),
+            _ => "r.get".into(),
+        },
+    }
+}
+
+/// The next call of a sequence that fills the tables of 64: many short chunks, many separate ranges.
+fn crowding(dice: &mut Dice, object: &str, state: &str) -> String {
+    let at = |name: &str| field(state, name).unwrap_or(0);
+    match (object, dice.below(10)) {
+        ("s", 0..=4) => format!("s.write {} 0", bytes(dice, 1)),
+        ("s", 5) => format!("s.emit {}", dice.pick(&[1, 2, 200])),
+        ("s", 6..=8) => format!("s.{} {} 1", dice.pick(&["ack", "ack", "ack_and_drop", "retransmit"]), 2 * dice.below(at("emitted") / 2 + 1)),
+        ("r", 0..=7) => format!("r.write {} {} 0", at("off") + 1 + 2 * dice.below(70), bytes(dice, 1)),
+        ("r", 8) => format!("r.write {} {} {}", at("off") + dice.below(140), bytes(dice, 30), dice.pick(&["0", "0", "1"])),
+        ("rs", 0..=7) => {
+            let start = 3 * dice.below(80);
+            format!("rs.insert {start} {}", start + dice.below(2))
+        }
+        _ => call(dice, object, state),
+    }
+}
+
+fn first(dice: &mut Dice, object: &str) -> String {
+    let arena = dice.pick(&[1, 2, 8, 40, 300, 4096, 65536]);
+    match object {
+        "rb" => {
+            let n = dice.pick(&[0, 1, 40]);
+            format!("rb.new {} {}", dice.pick(&[0, 7, M - 40]), bytes(dice, n))
+        }
+        "fc" => format!("fc.new {} {} {}", dice.near(&[0, 16, 1000, M]), dice.near(&[0, 16, M]), dice.near(&[0, 24, M])),
+        "rs" => format!("rs.new {}", dice.pick(&[1, 2, 3, 4, 5, 8, 63, 64])),
+        "s" => format!("s.new {} {arena}", dice.near(&[0, 1, 20, 5000, 70000, M])),
+        _ => format!("r.new {} {} {arena}", dice.near(&[0, 1, 20, 300, 70000]), dice.near(&[0, 20, 5000, M])),
+    }
+}
+
+fn report(compare: &Compare) {
+    println!("calls to the port:");
+    for (name, n) in &compare.calls {
+        println!("  {n:>12}  {name}");
+    }
+    println!("refusals that quiche does not have:");
+    for (name, n) in &compare.refused {
+        println!("  {n:>12}  {name}");
+    }
+    println!("rows of docs/DIFFERENCES.md:");
+    for (name, n) in &compare.rows {
+        println!("  {n:>12}  {name}");
+    }
+    println!("answers and states compared: {}", compare.compared);
+}
+
+fn fail(compare: &mut Compare, lines: Vec<String>) -> ! {
+    let (lines, difference) = compare.shrink(lines);
+    println!("A DIFFERENCE in no row of docs/DIFFERENCES.md:");
+    for line in &lines {
+        println!("    {line}");
+    }
+    println!("  here:   {}\n  quiche: {}", difference.port, difference.oracle);
+    report(compare);
+    std::process::exit(1)
+}
+
+fn exhaustive(compare: &mut Compare) {
+    for (first, depth, letters) in alphabets() {
+        let mut at = vec![0usize; depth];
+        loop {
+            let mut i = 0;
+            let found = compare.sequence(|_| {
+                i += 1;
+                match i {
+                    1 => Some(first.to_string()),
+                    i if i - 2 < depth => Some(letters[at[i - 2]].to_string()),
+                    _ => None,
+                }
+            });
+            if let Some((lines, _)) = found {
+                fail(compare, lines);
+            }
+            let Some(j) = (0..depth).rev().find(|&j| at[j] + 1 < letters.len()) else { break };
+            at[j] += 1;
+            at[j + 1..].fill(0);
+        }
+        eprintln!("every sequence of {depth} calls of {} after {first}: the same; {} compared so far", letters.len(), compare.compared);
+    }
+}
+
+fn main() {
+    let args: Vec<String> = std::env::args().collect();
+    let [_, port, oracle, seconds, seed] = &args[..] else {
+        eprintln!("usage: drive PORT ORACLE SECONDS SEED");
+        std::process::exit(2)
+    };
+    let (seconds, seed): (u64, u64) = (seconds.parse().expect("SECONDS"), seed.parse().expect("SEED"));
+    let mut compare = Compare {
+        port: Side::start(port),
+        oracle: Side::start(oracle),
+        calls: BTreeMap::new(),
+        refused: BTreeMap::new(),
+        rows: BTreeMap::new(),
+        compared: 0,
+    };
+    exhaustive(&mut compare);
+    let (began, mut told) = (Instant::now(), Instant::now());
+    let mut dice = Dice(seed.wrapping_mul(0x9e37_79b9_7f4a_7c15) | 1);
+    while began.elapsed() < Duration::from_secs(seconds) {
+        let object = dice.pick(&["rb", "fc", "rs", "rs", "s", "s", "s", "r", "r", "r"]);
+        let length = dice.pick(&[5, 20, 60, 200, 400]);
+        let crowded = dice.one_in(3);
+        let mut made = 0;
+        let found = compare.sequence(|state| {
+            made += 1;
+            match made {
+                1 => Some(first(&mut dice, object)),
+                m if m < length && state != "-" && crowded => Some(crowding(&mut dice, object, state)),
+                m if m < length && state != "-" => Some(call(&mut dice, object, state)),
+                _ => None,
+            }
+        });
+        if let Some((lines, _)) = found {
+            fail(&mut compare, lines);
+        }
+        if told.elapsed() > Duration::from_secs(5) {
+            told = Instant::now();
+            eprintln!("{:>5} s of {seconds}, {} compared", began.elapsed().as_secs(), compare.compared);
+        }
+    }
+    report(&compare);
+    println!("no difference outside the rows");
+}

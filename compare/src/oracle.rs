@@ -1,0 +1,434 @@
+//! The oracle: quiche's own buffers under the call script.
+//!
+//! quiche's files are compiled as they stand, from the folder that QUICHE_SRC names when this program is built. Each is
+//! included into a module that adds only what looks at private fields; the crate root below supplies the names that the
+//! files take from theirs, and the two small types that they take from stream/mod.rs.
+//!
+//! A call that quiche answers with an error prints document 01's number; one that panics prints `panic` and the object is
+//! gone until it is created again.
+
+use std::panic::catch_unwind;
+use std::panic::AssertUnwindSafe;
+use std::time::Duration;
+use std::time::Instant;
+
+pub use buffers::BufFactory;
+
+mod script;
+
+use script::bytes_of;
+use script::bytes_text;
+use script::chunk_text;
+use script::option;
+use script::ranges_text;
+use script::Call;
+use script::Side;
+
+#[derive(Debug, PartialEq)]
+pub enum Error {
+    Done,
+    BufferTooShort,
+    FinalSize,
+    FlowControl,
+    StreamStopped(u64),
+    StreamReset(u64),
+}
+
+pub type Result<T> = std::result::Result<T, Error>;
+
+#[allow(dead_code)]
+mod buffers {
+    include!(concat!(env!("QUICHE_SRC"), "/buffers.rs"));
+}
+
+#[allow(dead_code)]
+mod range_buf {
+    include!(concat!(env!("QUICHE_SRC"), "/range_buf.rs"));
+
+    pub fn show(b: &RangeBuf) -> String {
+        crate::chunk_text(b.off, b.len as u64, (b.pos - b.start) as u64)
+    }
+
+    /// All bytes of a chunk, consumed ones included.
+    pub fn whole(b: &RangeBuf) -> &[u8] {
+        &b.data.as_ref()[b.start..b.start + b.len]
+    }
+}
+
+#[allow(dead_code)]
+mod ranges {
+    include!(concat!(env!("QUICHE_SRC"), "/ranges.rs"));
+}
+
+#[allow(dead_code)]
+mod flowcontrol {
+    include!(concat!(env!("QUICHE_SRC"), "/flowcontrol.rs"));
+
+    pub fn show(f: &FlowControl, zero: Instant) -> String {
+        let last = f.last_update.map(|t| t.duration_since(zero).as_micros() as u64);
+        format!(
+            "consumed={} limit={} window={} maximum={} last={}",
+            f.consumed,
+            f.max_data,
+            f.window,
+            f.max_window,
+            super::option(last)
+        )
+    }
+}
+
+#[allow(dead_code)]
+mod stream {
+    pub enum RecvAction<T: bytes::BufMut> {
+        Emit { out: T },
+        Discard { len: usize },
+    }
+
+    #[derive(Debug)]
+    pub struct RecvBufResetReturn {
+        pub max_data_delta: u64,
+        pub consumed_flowcontrol: u64,
+    }
+
+    impl RecvBufResetReturn {
+        pub fn zero() -> Self {
+            Self {
+                max_data_delta: 0,
+                consumed_flowcontrol: 0,
+            }
+        }
+    }
+
+    pub mod send_buf {
+        include!(concat!(env!("QUICHE_SRC"), "/stream/send_buf.rs"));
+
+        pub fn show(s: &SendBuf) -> String {
+            let chunks: Vec<String> = s.data.iter().map(crate::range_buf::show).collect();
+            let held: Vec<u8> = s.data.iter().flat_map(|b| crate::range_buf::whole(b).to_vec()).collect();
+            format!(
+                "chunks=[{}] held={} pos={} off={} emitted={} tosend={} limit={} blocked={} fin={} acked={} shut={} err={}",
+                chunks.join(","),
+                crate::bytes_text(&held),
+                s.pos,
+                s.off,
+                s.emit_off,
+                s.buffered_bytes,
+                s.max_data,
+                crate::option(s.blocked_at),
+                crate::option(s.fin_off),
+                crate::set_text(&s.acked),
+                s.shutdown as u8,
+                crate::option(s.error)
+            )
+        }
+    }
+
+    pub mod recv_buf {
+        include!(concat!(env!("QUICHE_SRC"), "/stream/recv_buf.rs"));
+
+        pub fn show(r: &RecvBuf, zero: Instant) -> String {
+            let chunks: Vec<String> = r.data.values().map(crate::range_buf::show).collect();
+            let kept: Vec<u8> = r.data.values().flat_map(|b| b.to_vec()).collect();
+            format!(
+                "chunks=[{}] kept={} off={} len={} fin={} err={} drain={} {}",
+                chunks.join(","),
+                crate::bytes_text(&kept),
+                r.off,
+                r.len,
+                crate::option(r.fin_off),
+                crate::option(r.error),
+                r.drain as u8,
+                crate::flowcontrol::show(&r.flow_control, zero)
+            )
+        }
+
+        pub fn flow(r: &mut RecvBuf) -> &mut flowcontrol::FlowControl {
+            &mut r.flow_control
+        }
+    }
+}
+
+use range_buf::RangeBuf;
+use stream::recv_buf::RecvBuf;
+use stream::send_buf::SendBuf;
+use stream::RecvAction;
+
+fn set_text(set: &ranges::RangeSet) -> String {
+    ranges_text(set.iter().map(|r| (r.start, r.end)))
+}
+
+fn refusal(e: Error) -> String {
+    match e {
+        Error::StreamStopped(code) => format!("no 2 {code}"),
+        Error::FinalSize => "no 3".into(),
+        Error::FlowControl => "no 4".into(),
+        Error::Done => "no 8".into(),
+        Error::StreamReset(code) => format!("no 9 {code}"),
+        Error::BufferTooShort => "no ?".into(),
+    }
+}
+
+fn or_refusal<T>(r: Result<T>, f: impl FnOnce(T) -> String) -> String {
+    match r {
+        Ok(x) => f(x),
+        Err(e) => refusal(e),
+    }
+}
+
+struct Objects {
+    zero: Instant,
+    rb: Option<RangeBuf>,
+    fc: Option<flowcontrol::FlowControl>,
+    rs: Option<ranges::RangeSet>,
+    s: Option<SendBuf>,
+    r: Option<RecvBuf>,
+}
+
+impl Objects {
+    fn new(zero: Instant) -> Self {
+        Objects {
+            zero,
+            rb: None,
+            fc: None,
+            rs: None,
+            s: None,
+            r: None,
+        }
+    }
+
+    fn lose(&mut self, object: &str) {
+        match object {
+            "rb" => self.rb = None,
+            "fc" => self.fc = None,
+            "rs" => self.rs = None,
+            "s" => self.s = None,
+            _ => self.r = None,
+        }
+    }
+
+    fn window(&mut self, call: &str, n: &[u64]) -> Option<String> {
+        let (now, zero) = (n.first().copied().unwrap_or(0), self.zero);
+        let at = zero + Duration::from_micros(now);
+        let f = self.fc.as_mut()?;
+        Some(match call {
+            "add_consumed" => {
+                f.add_consumed(now);
+                "ok".into()
+            }
+            "commit" => {
+                f.update_max_data(at);
+                "ok".into()
+            }
+            "autotune" => {
+                f.autotune_window(at, Duration::from_micros(n[1]));
+                "ok".into()
+            }
+            "lower_bound" => {
+                f.ensure_window_lower_bound(now);
+                "ok".into()
+            }
+            "window" => format!("ok {}", f.window()),
+            "max_data" => format!("ok {}", f.max_data()),
+            "should_update" => format!("ok {}", f.should_update_max_data() as u8),
+            _ => format!("ok {}", f.max_data_next()),
+        })
+    }
+
+    fn chunk(&mut self, call: &str, n: &[u64], words: &[&str]) -> Option<String> {
+        let b = self.rb.as_mut()?;
+        Some(match call {
+            "consume" => {
+                b.consume(n[0] as usize);
+                "ok".into()
+            }
+            "split" => {
+                let right = b.split_off(n[0] as usize);
+                let text = format!("ok {}", range_buf::show(&right));
+                if words[1] == "r" {
+                    *b = right;
+                }
+                text
+            }
+            "off" => format!("ok {}", b.off()),
+            "max_off" => format!("ok {}", b.max_off()),
+            "len" => format!("ok {}", b.len()),
+            _ => format!("ok {}", b.is_empty() as u8),
+        })
+    }
+
+    fn set(&mut self, call: &str, n: &[u64]) -> Option<String> {
+        let s = self.rs.as_mut()?;
+        Some(match call {
+            "insert" => {
+                s.insert(n[0]..n[1]);
+                "ok".into()
+            }
+            "push_item" => {
+                s.push_item(n[0]);
+                "ok".into()
+            }
+            "remove_until" => {
+                s.remove_until(n[0]);
+                "ok".into()
+            }
+            "contains" => format!("ok {}", s.contains(n[0]) as u8),
+            "len" => format!("ok {}", s.len()),
+            "last" => format!("ok {}", option(s.last())),
+            "iter" => format!("ok {}", set_text(s)),
+            _ => format!("ok {}", (*s == (n[0]..n[1])) as u8),
+        })
+    }
+
+    fn send(&mut self, call: &str, n: &[u64], words: &[&str]) -> Option<String> {
+        let s = self.s.as_mut()?;
+        let sizes = |(a, b): (u64, u64)| format!("ok {a} {b}");
+        Some(match call {
+            "write" => or_refusal(s.write(&bytes_of(words[0]), words[1] == "1"), |k| format!("ok {k}")),
+            "emit" => {
+                let mut out = vec![0; n[0] as usize];
+                or_refusal(s.emit(&mut out), |(k, fin)| format!("ok {k} {} {}", fin as u8, bytes_text(&out[..k])))
+            }
+            "update_max_data" => {
+                s.update_max_data(n[0]);
+                "ok".into()
+            }
+            "update_blocked_at" => {
+                s.update_blocked_at(words[0].parse().ok());
+                "ok".into()
+            }
+            "ack" => {
+                s.ack(n[0], n[1] as usize);
+                "ok".into()
+            }
+            "ack_and_drop" => format!("ok {}", s.ack_and_drop(n[0], n[1] as usize)),
+            "retransmit" => format!("ok {}", s.retransmit(n[0], n[1] as usize)),
+            "reset" => sizes(s.reset()),
+            "stop" => or_refusal(s.stop(n[0]), sizes),
+            "shutdown" => or_refusal(s.shutdown(), sizes),
+            _ => format!(
+                "ok off_back={} off_front={} max_off={} is_fin={} is_complete={} is_stopped={} is_shutdown={} is_empty={} ack_off={} cap={} bufs_count={} buffered_bytes={} blocked_at={}",
+                s.off_back(),
+                s.off_front(),
+                s.max_off(),
+                s.is_fin() as u8,
+                s.is_complete() as u8,
+                s.is_stopped() as u8,
+                s.is_shutdown() as u8,
+                s.is_empty() as u8,
+                s.ack_off(),
+                match s.cap() {
+                    Ok(cap) => cap.to_string(),
+                    Err(e) => format!("({})", refusal(e)),
+                },
+                s.bufs_count(),
+                s.buffered_bytes(),
+                option(s.blocked_at())
+            ),
+        })
+    }
+
+    fn recv(&mut self, call: &str, n: &[u64], words: &[&str]) -> Option<String> {
+        let (zero, first) = (self.zero, n.first().copied().unwrap_or(0));
+        let at = |micros| zero + Duration::from_micros(micros);
+        let r = self.r.as_mut()?;
+        Some(match call {
+            "write" => {
+                let buf = RangeBuf::from(&bytes_of(words[1]), first, words[2] == "1");
+                or_refusal(r.write(buf), |_| "ok".into())
+            }
+            "emit" => {
+                let mut out = vec![0; first as usize];
+                or_refusal(r.emit(&mut out), |(k, fin)| format!("ok {k} {} {}", fin as u8, bytes_text(&out[..k])))
+            }
+            "discard" => {
+                let action: RecvAction<&mut [u8]> = RecvAction::Discard { len: first as usize };
+                or_refusal(r.emit_or_discard(action), |(k, fin)| format!("ok {k} {}", fin as u8))
+            }
+            "reset" => or_refusal(r.reset(first, n[1]), |t| format!("ok {} {}", t.max_data_delta, t.consumed_flowcontrol)),
+            "shutdown" => or_refusal(r.shutdown(), |k| format!("ok {k}")),
+            "commit" => {
+                r.update_max_data(at(first));
+                "ok".into()
+            }
+            "autotune" => {
+                r.autotune_window(at(first), Duration::from_micros(n[1]));
+                "ok".into()
+            }
+            "fc.add_consumed" => {
+                stream::recv_buf::flow(r).add_consumed(first);
+                "ok".into()
+            }
+            "fc.lower_bound" => {
+                stream::recv_buf::flow(r).ensure_window_lower_bound(first);
+                "ok".into()
+            }
+            "readable_len" => format!("ok {}", r.readable_len(first as usize)),
+            _ => format!(
+                "ok off_front={} max_off={} is_fin={} is_draining={} ready={} max_data={} window={} max_data_next={} readable_len={} almost_full={}",
+                r.off_front(),
+                r.max_off(),
+                r.is_fin() as u8,
+                r.is_draining() as u8,
+                r.ready() as u8,
+                r.max_data(),
+                r.window(),
+                r.max_data_next(),
+                r.readable_len(usize::MAX),
+                r.almost_full() as u8
+            ),
+        })
+    }
+
+    fn make(&mut self, call: &Call) -> Option<String> {
+        let (n, words) = (&call.n[..], &call.words[..]);
+        if call.call == "new" {
+            match call.object {
+                "rb" => self.rb = Some(RangeBuf::from(&bytes_of(words[1]), n[0], false)),
+                "fc" => self.fc = Some(flowcontrol::FlowControl::new(n[0], n[1], n[2])),
+                "rs" => self.rs = Some(ranges::RangeSet::new(n[0] as usize)),
+                "s" => self.s = Some(SendBuf::new(n[0])),
+                _ => self.r = Some(RecvBuf::new(n[0], n[0], n[1])),
+            }
+            return Some("ok".into());
+        }
+        match call.object {
+            "rb" => self.chunk(call.call, n, words),
+            "fc" => self.window(call.call, n),
+            "rs" => self.set(call.call, n),
+            "s" => self.send(call.call, n, words),
+            _ => self.recv(call.call, n, words),
+        }
+    }
+}
+
+impl Side for Objects {
+    fn afresh(&mut self) {
+        *self = Objects::new(self.zero);
+    }
+
+    fn call(&mut self, call: &Call) -> Option<String> {
+        match catch_unwind(AssertUnwindSafe(|| self.make(call))) {
+            Ok(said) => said,
+            Err(_) => {
+                self.lose(call.object);
+                Some("panic".into())
+            }
+        }
+    }
+
+    fn state(&self, object: &str) -> String {
+        let text = match object {
+            "rb" => self.rb.as_ref().map(range_buf::show),
+            "fc" => self.fc.as_ref().map(|f| flowcontrol::show(f, self.zero)),
+            "rs" => self.rs.as_ref().map(set_text),
+            "s" => self.s.as_ref().map(stream::send_buf::show),
+            _ => self.r.as_ref().map(|r| stream::recv_buf::show(r, self.zero)),
+        };
+        text.unwrap_or("-".into())
+    }
+}
+
+fn main() {
+    std::panic::set_hook(Box::new(|_| {}));
+    script::serve(&mut Objects::new(Instant::now()));
+}

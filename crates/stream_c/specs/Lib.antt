@@ -1,0 +1,3 @@
+-- The definitions that the contracts of `stream_c` cite.
+pub mod State
+pub mod Rules
