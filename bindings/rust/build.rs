@@ -18,7 +18,11 @@ fn main() {
 
 fn built() -> PathBuf {
     let here = PathBuf::from(std::env::var_os("CARGO_MANIFEST_DIR").expect("cargo names the crate's folder"));
-    let root = here.ancestors().nth(2).map(Path::to_path_buf).expect("the crate stands in bindings/rust");
+    let root = here
+        .ancestors()
+        .nth(2)
+        .map(Path::to_path_buf)
+        .expect("the crate stands in bindings/rust");
     let folder = root.join("target/staticlib");
     if !folder.join("libstream_c.a").exists() {
         let made = Command::new("rt").args(["staticlib", "stream_c"]).current_dir(&root).status();

@@ -85,7 +85,10 @@ impl Dice {
 
 /// A number of a state line: `off=12` of `.. off=12 ..`.
 fn field(state: &str, name: &str) -> Option<u64> {
-    state.split(' ').find_map(|w| w.strip_prefix(name)?.strip_prefix('=')).and_then(|v| v.parse().ok())
+    state
+        .split(' ')
+        .find_map(|w| w.strip_prefix(name)?.strip_prefix('='))
+        .and_then(|v| v.parse().ok())
 }
 
 fn is_set(state: &str, name: &str) -> bool {
@@ -94,7 +97,9 @@ fn is_set(state: &str, name: &str) -> bool {
 
 /// The ranges of a range set's state line; none of another object's.
 fn ranges(state: &str) -> Vec<(u64, u64)> {
-    let Some(inner) = state.strip_prefix('[').and_then(|s| s.strip_suffix(']')) else { return Vec::new() };
+    let Some(inner) = state.strip_prefix('[').and_then(|s| s.strip_suffix(']')) else {
+        return Vec::new();
+    };
     let pair = |w: &str| w.split_once('-').and_then(|(a, b)| Some((a.parse().ok()?, b.parse().ok()?)));
     inner.split(',').filter_map(pair).collect()
 }
@@ -137,7 +142,9 @@ fn row(line: &str, before: &str, said: &str, after: &str, form: &Form) -> Option
         "r.write" if said == "ok" && words[2] == "x" && words[3] == "0" && Some(n(1)) > field(before, "len") => {
             Some(("D-31 a frame without bytes or mark ahead of len", true))
         }
-        "r.reset" if said.starts_with("ok") && is_set(before, "fin") && !is_set(before, "err") && field(before, "drain") == Some(0) => {
+        "r.reset"
+            if said.starts_with("ok") && is_set(before, "fin") && !is_set(before, "err") && field(before, "drain") == Some(0) =>
+        {
             Some(("D-32 a first reset with F known", false))
         }
         _ => None,
@@ -172,7 +179,10 @@ impl Compare {
     /// One call to both sides. `None`: the sequence can go on; `Some(None)`: it ends here; else a difference.
     fn call(&mut self, line: &str, before: &mut String, form: &mut Form) -> Option<Option<Difference>> {
         let port = self.port.ask(line);
-        let (said, after) = port.split_once(" | ").map(|(a, b)| (a.to_string(), b.to_string())).unwrap_or_default();
+        let (said, after) = port
+            .split_once(" | ")
+            .map(|(a, b)| (a.to_string(), b.to_string()))
+            .unwrap_or_default();
         let name = line.split(' ').next().unwrap();
         *self.calls.entry(name.into()).or_default() += 1;
         if let Some((row, goes_on)) = row(line, before, &said, &after, form) {
@@ -185,7 +195,10 @@ impl Compare {
             return if after == *before || name.ends_with("new") {
                 None
             } else {
-                Some(Some(Difference { port, oracle: format!("(a refusal, after which the state is to be {before})") }))
+                Some(Some(Difference {
+                    port,
+                    oracle: format!("(a refusal, after which the state is to be {before})"),
+                }))
             };
         }
         let oracle = self.oracle.ask(line);
@@ -194,7 +207,10 @@ impl Compare {
             return Some(Some(Difference { port, oracle }));
         }
         if name == "rs.new" {
-            *form = Form { tree: false, capacity: line[7..].parse().unwrap_or(0) };
+            *form = Form {
+                tree: false,
+                capacity: line[7..].parse().unwrap_or(0),
+            };
         } else if name.starts_with("rs.") {
             let held = ranges(&after).len();
             form.tree = if form.tree { held > 2 } else { held == 4 };
@@ -259,10 +275,20 @@ fn smaller(lines: &[String]) -> Vec<Vec<String>> {
         for (j, word) in words.iter().enumerate().skip(1) {
             let mut tries: Vec<String> = Vec::new();
             if let Ok(n) = word.parse::<u64>() {
-                tries.extend([0, 1, n / 2, n.saturating_sub(1)].iter().filter(|m| **m < n).map(|m| m.to_string()));
+                tries.extend(
+                    [0, 1, n / 2, n.saturating_sub(1)]
+                        .iter()
+                        .filter(|m| **m < n)
+                        .map(|m| m.to_string()),
+                );
             } else if let Some((n, t)) = word.strip_prefix('p').and_then(|w| w.split_once(':')) {
                 let n: u64 = n.parse().unwrap_or(0);
-                tries.extend([0, 1, n / 2, n.saturating_sub(1)].iter().filter(|m| **m < n).map(|m| format!("p{m}:{t}")));
+                tries.extend(
+                    [0, 1, n / 2, n.saturating_sub(1)]
+                        .iter()
+                        .filter(|m| **m < n)
+                        .map(|m| format!("p{m}:{t}")),
+                );
             }
             for less in tries {
                 let mut words: Vec<String> = words.iter().map(|w| w.to_string()).collect();
@@ -279,12 +305,125 @@ fn smaller(lines: &[String]) -> Vec<Vec<String>> {
 /// Small alphabets, and a first call for each: every sequence of up to `depth` calls is tried.
 fn alphabets() -> Vec<(&'static str, usize, Vec<&'static str>)> {
     vec![
-        ("rb.new 3 x0102030405", 4, vec!["rb.consume 0", "rb.consume 2", "rb.consume 6", "rb.split 0 l", "rb.split 2 l", "rb.split 2 r", "rb.split 5 r", "rb.split 6 l", "rb.off", "rb.max_off", "rb.len", "rb.is_empty"]),
-        ("fc.new 16 16 24", 4, vec!["fc.add_consumed 0", "fc.add_consumed 8", "fc.add_consumed 1", "fc.commit 100", "fc.autotune 119 10", "fc.autotune 120 10", "fc.autotune 99 1", "fc.lower_bound 20", "fc.lower_bound 30", "fc.should_update", "fc.next", "fc.window", "fc.max_data"]),
-        ("rs.new 2", 4, vec!["rs.insert 0 0", "rs.insert 1 2", "rs.insert 2 4", "rs.insert 5 5", "rs.insert 6 8", "rs.push_item 4", "rs.remove_until 0", "rs.remove_until 1", "rs.remove_until 5", "rs.contains 2", "rs.last", "rs.eq 1 2", "rs.iter"]),
-        ("rs.new 6", 5, vec!["rs.insert 0 0", "rs.insert 2 3", "rs.insert 5 5", "rs.insert 7 9", "rs.insert 11 12", "rs.insert 1 8", "rs.remove_until 2", "rs.remove_until 8"]),
-        ("s.new 6 8", 4, vec!["s.write x 0", "s.write x 1", "s.write x010203 0", "s.write x0405 1", "s.emit 0", "s.emit 2", "s.emit 9", "s.ack 0 0", "s.ack_and_drop 0 2", "s.ack 2 1", "s.ack_and_drop 0 0", "s.retransmit 0 2", "s.retransmit 1 0", "s.retransmit 1 3", "s.reset", "s.stop 7", "s.shutdown", "s.update_max_data 9", "s.get"]),
-        ("r.new 6 8 8", 4, vec!["r.write 0 x 0", "r.write 0 x 1", "r.write 0 x0102 0", "r.write 1 x030405 0", "r.write 3 x0607 1", "r.write 5 x 1", "r.write 2 x08 0", "r.emit 0", "r.emit 1", "r.emit 9", "r.discard 2", "r.reset 7 5", "r.reset 7 2", "r.shutdown", "r.commit 100", "r.autotune 101 10", "r.readable_len 2", "r.get"]),
+        (
+            "rb.new 3 x0102030405",
+            4,
+            vec![
+                "rb.consume 0",
+                "rb.consume 2",
+                "rb.consume 6",
+                "rb.split 0 l",
+                "rb.split 2 l",
+                "rb.split 2 r",
+                "rb.split 5 r",
+                "rb.split 6 l",
+                "rb.off",
+                "rb.max_off",
+                "rb.len",
+                "rb.is_empty",
+            ],
+        ),
+        (
+            "fc.new 16 16 24",
+            4,
+            vec![
+                "fc.add_consumed 0",
+                "fc.add_consumed 8",
+                "fc.add_consumed 1",
+                "fc.commit 100",
+                "fc.autotune 119 10",
+                "fc.autotune 120 10",
+                "fc.autotune 99 1",
+                "fc.lower_bound 20",
+                "fc.lower_bound 30",
+                "fc.should_update",
+                "fc.next",
+                "fc.window",
+                "fc.max_data",
+            ],
+        ),
+        (
+            "rs.new 2",
+            4,
+            vec![
+                "rs.insert 0 0",
+                "rs.insert 1 2",
+                "rs.insert 2 4",
+                "rs.insert 5 5",
+                "rs.insert 6 8",
+                "rs.push_item 4",
+                "rs.remove_until 0",
+                "rs.remove_until 1",
+                "rs.remove_until 5",
+                "rs.contains 2",
+                "rs.last",
+                "rs.eq 1 2",
+                "rs.iter",
+            ],
+        ),
+        (
+            "rs.new 6",
+            5,
+            vec![
+                "rs.insert 0 0",
+                "rs.insert 2 3",
+                "rs.insert 5 5",
+                "rs.insert 7 9",
+                "rs.insert 11 12",
+                "rs.insert 1 8",
+                "rs.remove_until 2",
+                "rs.remove_until 8",
+            ],
+        ),
+        (
+            "s.new 6 8",
+            4,
+            vec![
+                "s.write x 0",
+                "s.write x 1",
+                "s.write x010203 0",
+                "s.write x0405 1",
+                "s.emit 0",
+                "s.emit 2",
+                "s.emit 9",
+                "s.ack 0 0",
+                "s.ack_and_drop 0 2",
+                "s.ack 2 1",
+                "s.ack_and_drop 0 0",
+                "s.retransmit 0 2",
+                "s.retransmit 1 0",
+                "s.retransmit 1 3",
+                "s.reset",
+                "s.stop 7",
+                "s.shutdown",
+                "s.update_max_data 9",
+                "s.get",
+            ],
+        ),
+        (
+            "r.new 6 8 8",
+            4,
+            vec![
+                "r.write 0 x 0",
+                "r.write 0 x 1",
+                "r.write 0 x0102 0",
+                "r.write 1 x030405 0",
+                "r.write 3 x0607 1",
+                "r.write 5 x 1",
+                "r.write 2 x08 0",
+                "r.emit 0",
+                "r.emit 1",
+                "r.emit 9",
+                "r.discard 2",
+                "r.reset 7 5",
+                "r.reset 7 2",
+                "r.shutdown",
+                "r.commit 100",
+                "r.autotune 101 10",
+                "r.readable_len 2",
+                "r.get",
+            ],
+        ),
     ]
 }
 
@@ -311,7 +450,10 @@ fn call(dice: &mut Dice, object: &str, state: &str) -> String {
             2 => format!("fc.commit {}", dice.near(&[0, 1000, TOP])),
             3 | 4 => {
                 let rtt = dice.near(&[0, 10, 1 << 63, TOP]);
-                format!("fc.autotune {} {rtt}", dice.near(&[0, at("last").saturating_add(rtt.saturating_mul(2)), at("last")]))
+                format!(
+                    "fc.autotune {} {rtt}",
+                    dice.near(&[0, at("last").saturating_add(rtt.saturating_mul(2)), at("last")])
+                )
             }
             5 => format!("fc.lower_bound {}", dice.near(&[0, at("window"), at("maximum"), M])),
             _ => dice.pick(&["fc.should_update", "fc.next", "fc.window", "fc.max_data"]).into(),
@@ -329,23 +471,44 @@ fn call(dice: &mut Dice, object: &str, state: &str) -> String {
         }
         "s" => match dice.below(20) {
             0..=4 => {
-                let n = if dice.one_in(12) { dice.near(&[4096, 8192, 65536]) } else { dice.pick(&[0, 0, 1, 2, 3, 5, 9, 40]) };
+                let n = if dice.one_in(12) {
+                    dice.near(&[4096, 8192, 65536])
+                } else {
+                    dice.pick(&[0, 0, 1, 2, 3, 5, 9, 40])
+                };
                 format!("s.write {} {}", bytes(dice, n), mark(dice))
             }
             5..=9 => format!("s.emit {}", dice.pick(&[0, 1, 2, 3, 7, 20, 1200, 5000, 70000])),
             10..=15 => {
                 let off = dice.near(&[0, 0, at("emitted") / 2, at("emitted")]);
                 let len = dice.near(&[0, 1, at("emitted").saturating_sub(off), at("emitted") / 3]);
-                format!("s.{} {off} {len}", dice.pick(&["ack", "ack_and_drop", "ack_and_drop", "retransmit", "retransmit"]))
+                format!(
+                    "s.{} {off} {len}",
+                    dice.pick(&["ack", "ack_and_drop", "ack_and_drop", "retransmit", "retransmit"])
+                )
             }
-            16 => format!("s.update_max_data {}", dice.near(&[at("limit"), at("limit").saturating_add(5000), M])),
+            16 => format!(
+                "s.update_max_data {}",
+                dice.near(&[at("limit"), at("limit").saturating_add(5000), M])
+            ),
             17 if dice.one_in(6) => dice.pick(&["s.reset", "s.stop 7", "s.shutdown"]).into(),
-            18 => dice.pick(&["s.update_blocked_at -", "s.update_blocked_at 5", "s.ack 18446744073709551615 1", "s.write x 1 @7"]).into(),
+            18 => dice
+                .pick(&[
+                    "s.update_blocked_at -",
+                    "s.update_blocked_at 5",
+                    "s.ack 18446744073709551615 1",
+                    "s.write x 1 @7",
+                ])
+                .into(),
             _ => "s.get".into(),
         },
         _ => match dice.below(20) {
             0..=8 => {
-                let n = if dice.one_in(15) { dice.near(&[1200, 4096, 65536]) } else { dice.pick(&[0, 1, 2, 3, 5, 9, 40]) };
+                let n = if dice.one_in(15) {
+                    dice.near(&[1200, 4096, 65536])
+                } else {
+                    dice.pick(&[0, 1, 2, 3, 5, 9, 40])
+                };
                 let ahead = at("off") + dice.below(30);
                 let off = dice.near(&[at("off"), at("len"), ahead, at("limit"), at("len") + 50]);
                 format!("r.write {off} {} {}", bytes(dice, n), mark(dice))
@@ -357,7 +520,14 @@ fn call(dice: &mut Dice, object: &str, state: &str) -> String {
             16 => format!("r.readable_len {}", dice.pick(&[0, 1, 5, TOP])),
             17 if dice.one_in(5) => format!("r.reset 7 {}", dice.near(&[at("len"), at("limit")])),
             18 if dice.one_in(8) => "r.shutdown".into(),
-            18 => dice.pick(&["r.fc.add_consumed 3", "r.fc.lower_bound 90", "r.write 18446744073709551615 x01 0", "r.emit 3 @9"]).into(),
+            18 => dice
+                .pick(&[
+                    "r.fc.add_consumed 3",
+                    "r.fc.lower_bound 90",
+                    "r.write 18446744073709551615 x01 0",
+                    "r.emit 3 @9",
+                ])
+                .into(),
             _ => "r.get".into(),
         },
     }
@@ -367,11 +537,21 @@ fn call(dice: &mut Dice, object: &str, state: &str) -> String {
 fn crowding(dice: &mut Dice, object: &str, state: &str) -> String {
     let at = |name: &str| field(state, name).unwrap_or(0);
     match (object, dice.below(10)) {
-        ("s", 0..=4) => format!("s.write {} 0", bytes(dice, 1)),
+        ("s", 0) => format!("s.write {} 0", bytes(dice, 200)),
+        ("s", 1..=4) => format!("s.write {} 0", bytes(dice, 1)),
         ("s", 5) => format!("s.emit {}", dice.pick(&[1, 2, 200])),
-        ("s", 6..=8) => format!("s.{} {} 1", dice.pick(&["ack", "ack", "ack_and_drop", "retransmit"]), 2 * dice.below(at("emitted") / 2 + 1)),
+        ("s", 6..=8) => format!(
+            "s.{} {} 1",
+            dice.pick(&["ack", "ack", "ack_and_drop", "retransmit"]),
+            2 * dice.below(at("emitted") / 2 + 1)
+        ),
         ("r", 0..=7) => format!("r.write {} {} 0", at("off") + 1 + 2 * dice.below(70), bytes(dice, 1)),
-        ("r", 8) => format!("r.write {} {} {}", at("off") + dice.below(140), bytes(dice, 30), dice.pick(&["0", "0", "1"])),
+        ("r", 8) => format!(
+            "r.write {} {} {}",
+            at("off") + dice.below(140),
+            bytes(dice, 30),
+            dice.pick(&["0", "0", "1"])
+        ),
         ("rs", 0..=7) => {
             let start = 3 * dice.below(80);
             format!("rs.insert {start} {}", start + dice.below(2))
@@ -387,10 +567,19 @@ fn first(dice: &mut Dice, object: &str) -> String {
             let n = dice.pick(&[0, 1, 40]);
             format!("rb.new {} {}", dice.pick(&[0, 7, M - 40]), bytes(dice, n))
         }
-        "fc" => format!("fc.new {} {} {}", dice.near(&[0, 16, 1000, M]), dice.near(&[0, 16, M]), dice.near(&[0, 24, M])),
+        "fc" => format!(
+            "fc.new {} {} {}",
+            dice.near(&[0, 16, 1000, M]),
+            dice.near(&[0, 16, M]),
+            dice.near(&[0, 24, M])
+        ),
         "rs" => format!("rs.new {}", dice.pick(&[1, 2, 3, 4, 5, 8, 63, 64])),
         "s" => format!("s.new {} {arena}", dice.near(&[0, 1, 20, 5000, 70000, M])),
-        _ => format!("r.new {} {} {arena}", dice.near(&[0, 1, 20, 300, 70000]), dice.near(&[0, 20, 5000, M])),
+        _ => format!(
+            "r.new {} {} {arena}",
+            dice.near(&[0, 1, 20, 300, 70000]),
+            dice.near(&[0, 20, 5000, M])
+        ),
     }
 }
 
@@ -437,11 +626,17 @@ fn exhaustive(compare: &mut Compare) {
             if let Some((lines, _)) = found {
                 fail(compare, lines);
             }
-            let Some(j) = (0..depth).rev().find(|&j| at[j] + 1 < letters.len()) else { break };
+            let Some(j) = (0..depth).rev().find(|&j| at[j] + 1 < letters.len()) else {
+                break;
+            };
             at[j] += 1;
             at[j + 1..].fill(0);
         }
-        eprintln!("every sequence of {depth} calls of {} after {first}: the same; {} compared so far", letters.len(), compare.compared);
+        eprintln!(
+            "every sequence of {depth} calls of {} after {first}: the same; {} compared so far",
+            letters.len(),
+            compare.compared
+        );
     }
 }
 
@@ -482,7 +677,11 @@ fn main() {
         }
         if told.elapsed() > Duration::from_secs(5) {
             told = Instant::now();
-            eprintln!("{:>5} s of {seconds}, {} compared", began.elapsed().as_secs(), compare.compared);
+            eprintln!(
+                "{:>5} s of {seconds}, {} compared",
+                began.elapsed().as_secs(),
+                compare.compared
+            );
         }
     }
     report(&compare);

@@ -107,7 +107,11 @@ impl Objects {
     fn create(&mut self, call: &Call) -> String {
         let n = &call.n;
         match call.object {
-            "rb" => created(&mut self.rb, raw::range_buf_from(n[0], bytes_of(call.words[1]).len() as u64), |s| s),
+            "rb" => created(
+                &mut self.rb,
+                raw::range_buf_from(n[0], bytes_of(call.words[1]).len() as u64),
+                |s| s,
+            ),
             "fc" => created(&mut self.fc, raw::flow_control_new(n[0], n[1], n[2]), |s| s),
             "rs" => created(&mut self.rs, raw::range_set_new(n[0] as usize), |s| s),
             "s" => {
@@ -116,7 +120,10 @@ impl Objects {
             }
             _ => {
                 let arena = vec![0; n[2].min(1 << 20) as usize];
-                created(&mut self.r, raw::recv_buf_new(n[0], n[1], &arena), |state| Lent { state, arena })
+                created(&mut self.r, raw::recv_buf_new(n[0], n[1], &arena), |state| Lent {
+                    state,
+                    arena,
+                })
             }
         }
     }
@@ -128,7 +135,11 @@ impl Objects {
             "split" => {
                 let out = raw::range_buf_split_off(*b, call.n[0]);
                 let right = out.right;
-                *b = if out.answer.number == 0 && call.words[1] == "r" { right } else { out.state };
+                *b = if out.answer.number == 0 && call.words[1] == "r" {
+                    right
+                } else {
+                    out.state
+                };
                 told(out.answer, |_| format!("ok {}", chunk_text(right.off, right.len, right.pos)))
             }
             "off" => format!("ok {}", raw::range_buf_off(*b)),
@@ -167,11 +178,16 @@ impl Objects {
         let mut other = call.arena.map(|len| vec![0; len]);
         let arena = other.as_mut().unwrap_or(arena);
         Some(match call.call {
-            "write" => count(step(s, raw::send_buf_write(*s, arena, &bytes_of(call.words[0]), call.words[1] == "1"))),
+            "write" => count(step(
+                s,
+                raw::send_buf_write(*s, arena, &bytes_of(call.words[0]), call.words[1] == "1"),
+            )),
             "emit" => {
                 let mut out = vec![0; n[0] as usize];
                 let answer = step(s, raw::send_buf_emit(*s, arena, &mut out));
-                told(answer, |a| format!("ok {} {} {}", a.first, a.second, bytes_text(&out[..a.first as usize])))
+                told(answer, |a| {
+                    format!("ok {} {} {}", a.first, a.second, bytes_text(&out[..a.first as usize]))
+                })
             }
             "update_max_data" => plain(step(s, raw::send_buf_update_max_data(*s, n[0]))),
             "update_blocked_at" => {
@@ -206,7 +222,9 @@ impl Objects {
             "emit" => {
                 let mut out = vec![0; n[0] as usize];
                 let answer = step(r, raw::recv_buf_emit(*r, arena, &mut out));
-                told(answer, |a| format!("ok {} {} {}", a.first, a.second, bytes_text(&out[..a.first as usize])))
+                told(answer, |a| {
+                    format!("ok {} {} {}", a.first, a.second, bytes_text(&out[..a.first as usize]))
+                })
             }
             "discard" => sizes(step(r, raw::recv_buf_discard(*r, n[0]))),
             "reset" => sizes(step(r, raw::recv_buf_reset(*r, n[0], n[1]))),
@@ -301,7 +319,10 @@ fn send_text(Lent { state: s, arena }: &Lent<SendBufState>) -> String {
 
 fn recv_text(Lent { state: r, arena }: &Lent<RecvBufState>) -> String {
     let (held, text) = chunks(&r.data, r.count);
-    let bytes: Vec<u8> = held.iter().flat_map(|c| stored(arena, c.off + c.pos, c.off + c.len)).collect();
+    let bytes: Vec<u8> = held
+        .iter()
+        .flat_map(|c| stored(arena, c.off + c.pos, c.off + c.len))
+        .collect();
     format!(
         "chunks={text} kept={} off={} len={} fin={} err={} drain={} {}",
         bytes_text(&bytes),

@@ -32,11 +32,15 @@ pub fn bytes_text(data: &[u8]) -> String {
 /// The bytes that a word of the script stands for.
 pub fn bytes_of(word: &str) -> Vec<u8> {
     if let Some(hex) = word.strip_prefix('x') {
-        return (0..hex.len() / 2).map(|i| u8::from_str_radix(&hex[2 * i..2 * i + 2], 16).unwrap()).collect();
+        return (0..hex.len() / 2)
+            .map(|i| u8::from_str_radix(&hex[2 * i..2 * i + 2], 16).unwrap())
+            .collect();
     }
     let (n, t) = word[1..].split_once(':').unwrap();
     let (n, t): (usize, u64) = (n.parse().unwrap(), t.parse().unwrap());
-    (0..n as u64).map(|i| ((7 * i + 3 * (i / 256) + 41 * (t % 256) + 1) % 256) as u8).collect()
+    (0..n as u64)
+        .map(|i| ((7 * i + 3 * (i / 256) + 41 * (t % 256) + 1) % 256) as u8)
+        .collect()
 }
 
 /// Ranges as a state shows them.
@@ -94,10 +98,19 @@ pub fn serve(side: &mut impl Side) {
 fn parsed(line: &str) -> Call<'_> {
     let mut words: Vec<&str> = line.split_whitespace().collect();
     let (object, call) = words.remove(0).split_once('.').expect("a call is OBJECT.CALL");
-    let arena = words.last().and_then(|w| w.strip_prefix('@')).map(|n| n.parse().expect("@ and a length"));
+    let arena = words
+        .last()
+        .and_then(|w| w.strip_prefix('@'))
+        .map(|n| n.parse().expect("@ and a length"));
     if arena.is_some() {
         words.pop();
     }
     let n = words.iter().map(|w| w.parse().unwrap_or(0)).collect();
-    Call { object, call, words, n, arena }
+    Call {
+        object,
+        call,
+        words,
+        n,
+        arena,
+    }
 }

@@ -36,12 +36,18 @@ impl Link {
 }
 
 fn settings() -> Vec<u8> {
-    (0..200).flat_map(|feeder| format!("feeder {feeder}: trip above {} V\n", 240 + feeder % 20).into_bytes()).collect()
+    (0..200)
+        .flat_map(|feeder| format!("feeder {feeder}: trip above {} V\n", 240 + feeder % 20).into_bytes())
+        .collect()
 }
 
 fn main() -> Result<(), Refusal> {
     let file = settings();
-    let mut link = Link { dice: 0x9e37_79b9_7f4a_7c15, lost: 0, repeated: 0 };
+    let mut link = Link {
+        dice: 0x9e37_79b9_7f4a_7c15,
+        lost: 0,
+        repeated: 0,
+    };
     let mut send = SendBuf::new(1000, ARENA)?;
     let mut recv = RecvBuf::new(1000, 4000, ARENA)?;
     let (mut written, mut closed, mut copy, mut sent, mut now) = (0, false, Vec::new(), 0, 0);
@@ -66,7 +72,11 @@ fn main() -> Result<(), Refusal> {
             let mut room = [0; FRAME];
             let (n, fin) = send.emit(&mut room)?;
             if n > 0 || fin {
-                flight.push(Frame { off, bytes: room[..n].to_vec(), fin });
+                flight.push(Frame {
+                    off,
+                    bytes: room[..n].to_vec(),
+                    fin,
+                });
                 sent += 1;
             }
         }
@@ -113,6 +123,11 @@ fn main() -> Result<(), Refusal> {
 
     assert_eq!(copy, file);
     assert_eq!((send.off_back(), recv.off_front()), (file.len() as u64, file.len() as u64));
-    println!("{} bytes arrived whole: {sent} frames sent, {} lost, {} repeated", copy.len(), link.lost, link.repeated);
+    println!(
+        "{} bytes arrived whole: {sent} frames sent, {} lost, {} repeated",
+        copy.len(),
+        link.lost,
+        link.repeated
+    );
     Ok(())
 }

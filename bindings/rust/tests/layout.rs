@@ -12,16 +12,48 @@ use valemkhor::SendBufState;
 
 #[test]
 fn small_states() {
-    assert_eq!((size_of::<RangeBufState>(), offset_of!(RangeBufState, off), offset_of!(RangeBufState, len), offset_of!(RangeBufState, pos)), (24, 0, 8, 16));
-    assert_eq!((size_of::<RangeState>(), offset_of!(RangeState, start), offset_of!(RangeState, end)), (16, 0, 8));
-    assert_eq!((size_of::<Number>(), offset_of!(Number, known), offset_of!(Number, value)), (16, 0, 8));
-    assert_eq!((size_of::<FlowControlState>(), offset_of!(FlowControlState, consumed), offset_of!(FlowControlState, max_data)), (48, 0, 8));
     assert_eq!(
-        (offset_of!(FlowControlState, window), offset_of!(FlowControlState, max_window), offset_of!(FlowControlState, last_update)),
+        (
+            size_of::<RangeBufState>(),
+            offset_of!(RangeBufState, off),
+            offset_of!(RangeBufState, len),
+            offset_of!(RangeBufState, pos)
+        ),
+        (24, 0, 8, 16)
+    );
+    assert_eq!(
+        (
+            size_of::<RangeState>(),
+            offset_of!(RangeState, start),
+            offset_of!(RangeState, end)
+        ),
+        (16, 0, 8)
+    );
+    assert_eq!(
+        (size_of::<Number>(), offset_of!(Number, known), offset_of!(Number, value)),
+        (16, 0, 8)
+    );
+    assert_eq!(
+        (
+            size_of::<FlowControlState>(),
+            offset_of!(FlowControlState, consumed),
+            offset_of!(FlowControlState, max_data)
+        ),
+        (48, 0, 8)
+    );
+    assert_eq!(
+        (
+            offset_of!(FlowControlState, window),
+            offset_of!(FlowControlState, max_window),
+            offset_of!(FlowControlState, last_update)
+        ),
         (16, 24, 32)
     );
     assert_eq!((size_of::<RangeSetState>(), offset_of!(RangeSetState, inner)), (1040, 0));
-    assert_eq!((offset_of!(RangeSetState, count), offset_of!(RangeSetState, capacity)), (1024, 1032));
+    assert_eq!(
+        (offset_of!(RangeSetState, count), offset_of!(RangeSetState, capacity)),
+        (1024, 1032)
+    );
 }
 
 #[test]
@@ -42,7 +74,10 @@ fn send_buffer() {
         offset_of!(SendBufState, error),
         offset_of!(SendBufState, arena_len),
     ];
-    assert_eq!(offsets, [0, 1536, 1544, 1552, 1560, 1568, 1576, 1584, 1600, 1616, 1624, 2664, 2680]);
+    assert_eq!(
+        offsets,
+        [0, 1536, 1544, 1552, 1560, 1568, 1576, 1584, 1600, 1616, 1624, 2664, 2680]
+    );
 }
 
 #[test]
