@@ -255,11 +255,11 @@ vk_send_buf_out vk_send_buf_new(uint64_t max_data, const uint8_t *arena, size_t 
  * VK_BAD_SETUP: the arena has another length than at creation.
  * VK_STOPPED: the peer stopped the stream.
  * VK_FINAL_SIZE: the final size is known, and the bytes pass it, or reach it with no mark.
- * VK_NO_ROOM: the bytes and those not yet acked do not fit the arena.
+ * VK_NO_ROOM: the bytes to be accepted, and those that chunks still hold, do not fit the arena.
  * VK_TABLE_FULL: a 65th chunk would be needed; a chunk holds up to 4,096 bytes of one write. */
 vk_send_buf_out vk_send_buf_write(vk_send_buf buf, uint8_t *arena, size_t arena_len, const uint8_t *input, size_t input_len, bool fin);
 
-/* Copies up to out_len bytes to out, from vk_send_buf_off_front of buf on: what was lost first, then what was never sent.
+/* Copies up to out_len bytes to out, from vk_send_buf_off_front of buf on, up to the next byte that is not to be sent (again).
  * first: how many; second: 1 if they reach the final size, so that the frame carries the end mark. The rest of out stays as it was.
  * VK_BAD_SETUP: the arena has another length than at creation. */
 vk_send_buf_out vk_send_buf_emit(vk_send_buf buf, const uint8_t *arena, size_t arena_len, uint8_t *out, size_t out_len);
@@ -290,7 +290,7 @@ vk_send_buf_out vk_send_buf_ack_and_drop(vk_send_buf buf, uint64_t off, uint64_t
 vk_send_buf_out vk_send_buf_retransmit(vk_send_buf buf, uint64_t off, uint64_t len);
 
 /* Ends the stream at the larger of front and largest offset sent, and drops what it holds.
- * first: the largest offset that was sent, the final size for the peer; second: how many bytes were never sent. */
+ * first: the largest offset that was sent; second: how many bytes were never sent. */
 vk_send_buf_out vk_send_buf_reset(vk_send_buf buf);
 
 /* The peer asks to stop: the same, and every later write or cap answers VK_STOPPED with this code.
@@ -354,7 +354,8 @@ typedef struct vk_recv_buf_out {
  * VK_BAD_SETUP: max_data or max_window is above M, or arena_len is not 1 to 65,536. Beside that stands a buffer that refuses every arena. */
 vk_recv_buf_out vk_recv_buf_new(uint64_t max_data, uint64_t max_window, const uint8_t *arena, size_t arena_len);
 
-/* Takes a frame: input at off, with fin if it carries the end mark. Bytes that were handed out, or are kept already, are ignored.
+/* Takes a frame: input at off, with fin if it carries the end mark. Bytes that were handed out, or are kept already, are ignored; a frame
+ * with neither bytes nor mark changes nothing.
  * VK_BAD_SETUP: the arena has another length than at creation.
  * VK_OFFSET: the frame ends above M.
  * VK_FLOW_CONTROL: the frame ends above the limit.

@@ -1,5 +1,5 @@
 -- `code_or_0` meets its contract. Assumes nothing.
-use mathlib.Core.Path.{_≡_, sym, ap, _∙_}
+use mathlib.Core.Path.{sym, ap}
 use Rattle.stream_c.specs.State.{codeOr0}
 use borrow.Author.Needs.{needs}
 use Rattle.stream_c.proofs.code_or_0.Statement.{statement}

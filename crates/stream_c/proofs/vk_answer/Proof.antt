@@ -1,5 +1,5 @@
 -- `vk_answer` meets its contract. Assumes nothing.
-use mathlib.Core.Path.{_≡_, sym, ap, _∙_}
+use mathlib.Core.Path.{sym, ap, _∙_}
 use Rattle.refusal.specs.Rules.{told}
 use Rattle.refusal.specs.declared.Answer.{Answer}
 use Rattle.stream_c.specs.State.{padded}

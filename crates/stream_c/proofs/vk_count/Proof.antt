@@ -1,5 +1,5 @@
 -- `vk_count` meets its contract. Assumes nothing.
-use mathlib.Core.Path.{_≡_, sym, ap, _∙_}
+use mathlib.Core.Path.{sym, ap, _∙_}
 use Rattle.refusal.specs.Rules.{toldCount}
 use Rattle.refusal.specs.declared.CountAnswer.{CountAnswer}
 use Rattle.stream_c.specs.State.{padded}

@@ -1,5 +1,5 @@
 -- `vk_emit` meets its contract. Assumes nothing.
-use mathlib.Core.Path.{_≡_, sym, ap, _∙_}
+use mathlib.Core.Path.{sym, ap, _∙_}
 use Rattle.refusal.specs.Rules.{toldEmit}
 use Rattle.refusal.specs.declared.EmitAnswer.{EmitAnswer}
 use Rattle.stream_c.specs.State.{padded}

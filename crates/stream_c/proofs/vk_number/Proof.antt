@@ -1,5 +1,5 @@
 -- `vk_number` meets its contract. Assumes nothing.
-use mathlib.Core.Path.{_≡_, sym, ap, _∙_}
+use mathlib.Core.Path.{sym, ap}
 use Rattle.stream_c.specs.State.{vkNumber}
 use borrow.Author.Needs.{needs}
 use Rattle.stream_c.proofs.vk_number.Statement.{statement}

@@ -1,5 +1,4 @@
 -- `vk_refusal` meets its contract. Assumes nothing.
-use mathlib.Core.Path.{_≡_, sym, ap, _∙_}
 use Rattle.stream_c.proofs.Laws.{told-code}
 use borrow.Author.Needs.{needs}
 use Rattle.stream_c.proofs.vk_refusal.Statement.{statement}

@@ -1,5 +1,5 @@
 -- `vk_sizes` meets its contract. Assumes nothing.
-use mathlib.Core.Path.{_≡_, sym, ap, _∙_}
+use mathlib.Core.Path.{sym, ap, _∙_}
 use Rattle.refusal.specs.Rules.{toldSizes}
 use Rattle.refusal.specs.declared.SizesAnswer.{SizesAnswer}
 use Rattle.stream_c.specs.State.{padded}

@@ -1,5 +1,4 @@
 -- `split_out` meets its contract. Assumes nothing.
-use mathlib.Core.Path.{_≡_, sym, ap, _∙_}
 use Rattle.stream_c.specs.Rules.{splitOut}
 use Rattle.stream_c.specs.State.{padded}
 use borrow.Author.Needs.{needs}

@@ -1,5 +1,5 @@
 -- `range_out` meets its contract. Assumes nothing.
-use mathlib.Core.Path.{_≡_, sym, ap, _∙_}
+use mathlib.Core.Path.{sym, ap}
 use Rattle.stream_c.specs.Rules.{rangeOut}
 use borrow.Author.Needs.{needs}
 use Rattle.stream_c.proofs.set.range_out.Statement.{statement}
