@@ -60,7 +60,8 @@ pub struct Call<'a> {
     pub call: &'a str,
     pub words: Vec<&'a str>,
     pub n: Vec<u64>,
-    /// The length of an arena that is lent instead of the right one.
+    /// The length of an arena that is lent instead of the right one. quiche has no arenas, so only the port reads it.
+    #[allow(dead_code)]
     pub arena: Option<usize>,
 }
 
