@@ -1,0 +1,42 @@
+-- `sender::ack` meets its contract: the buffer that the call leaves is good. Assumes nothing.
+use Rattle.send_buf.proofs.Kept.{acks-good}
+use borrow.Author.Needs.{needs}
+use Rattle.examples.proofs.sender.ack.Statement.{statement}
+use Rattle.examples.proofs.sender.ack.Tie as tie
+
+slice-aggregate-call : tie.Need-slice-aggregate-call
+slice-aggregate-call c = search needs
+
+call-requires : tie.Need-call-requires
+call-requires c κs = search needs
+
+given-requires : tie.Need-given-requires
+given-requires c κs = search needs
+
+given-requires-2 : tie.Need-given-requires-2
+given-requires-2 c κs = search needs
+
+ack-requires : tie.Need-ack-requires
+ack-requires c κs = search needs
+
+answer-requires : tie.Need-answer-requires
+answer-requires c κs = search needs
+
+state-requires : tie.Need-state-requires
+state-requires c κs = rw (c .before .before .ack .ensures) (acks-good _ (c .before .before .before .before .before .before .before .before .pre .facts) _ _)
+
+returns : tie.Need-returns
+returns c = rw (c .before .before .before .ack .ensures) (acks-good _ (c .before .before .before .before .before .before .before .before .before .pre .facts) _ _)
+
+pub ack-spec : {M : Type 1} → statement M
+ack-spec =
+    tie.close
+    (tie.spec
+    slice-aggregate-call
+    call-requires
+    given-requires
+    given-requires-2
+    ack-requires
+    answer-requires
+    state-requires
+    returns)

@@ -1,0 +1,42 @@
+-- `sender::new` meets its contract: the buffer that the call leaves is good. Assumes nothing.
+use Rattle.send_buf.proofs.Kept.{created-good}
+use borrow.Author.Needs.{needs}
+use Rattle.examples.proofs.sender.new.Statement.{statement}
+use Rattle.examples.proofs.sender.new.Tie as tie
+
+slice-aggregate-call : tie.Need-slice-aggregate-call
+slice-aggregate-call c = search needs
+
+call-requires : tie.Need-call-requires
+call-requires c κs = search needs
+
+given-requires : tie.Need-given-requires
+given-requires c κs = search needs
+
+given-requires-2 : tie.Need-given-requires-2
+given-requires-2 c κs = search needs
+
+new-requires : tie.Need-new-requires
+new-requires c κs = search needs
+
+answer-requires : tie.Need-answer-requires
+answer-requires c κs = search needs
+
+state-requires : tie.Need-state-requires
+state-requires c κs = rw (c .before .before .new .ensures) (created-good _ _)
+
+returns : tie.Need-returns
+returns c = rw (c .before .before .before .new .ensures) (created-good _ _)
+
+pub new-spec : {M : Type 1} → statement M
+new-spec =
+    tie.close
+    (tie.spec
+    slice-aggregate-call
+    call-requires
+    given-requires
+    given-requires-2
+    new-requires
+    answer-requires
+    state-requires
+    returns)
