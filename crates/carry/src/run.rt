@@ -1,11 +1,12 @@
 // A run: the two buffers, the frames in flight between them, and the dice.
 //
 // Slot k of the channel holds one frame: its numbers in `frames[k]`, its bytes in the lent array from k * 1200 on. In each round a frame
-// in flight is lost, or waits, or arrives; one that arrived may stay, to arrive again.
+// in flight waits, or comes to the end, where it is lost or arrives; one that arrived may stay, to arrive again.
 ghost use Prim.Native.Nat.{_<_};
 ghost use Rattle.carry.specs.Sound.{Sound};
 use crate::calls;
 use crate::tally::Tally;
+use crate::tally::say;
 use libc::STDIN_FILENO;
 use libc::STDOUT_FILENO;
 use recv_buf::RecvBuf;
@@ -44,7 +45,7 @@ pub struct Run {
     pub closed: bool,
     // Is the end mark in flight, or arrived?
     pub marked: bool,
-    // Standard output takes no more.
+    // Standard input or output failed.
     pub broken: bool,
 }
 
@@ -113,6 +114,9 @@ impl Run {
 
     // Has the receiver handed out everything, and is nothing in flight?
     pub fn is_done(self) -> bool {
+        if self.broken {
+            return false;
+        }
         if !self.recv.is_fin() {
             return false;
         }
@@ -154,8 +158,14 @@ impl Run {
         if self.ended {
             return self;
         }
-        let n = io::read_full(STDIN_FILENO, window);
+        let got = libc::read(STDIN_FILENO, window);
         let mut next = self;
+        if got < 0 {
+            say(b"carry: standard input cannot be read\n");
+            next.broken = true;
+            return next;
+        }
+        let n = io::count(got, window);
         next.at = 0;
         next.have = n;
         next.ended = n == 0;
@@ -321,21 +331,21 @@ impl Run {
             return self;
         }
         let once = self.rolled();
-        if per_mille(once.dice) < once.loss {
-            return once.lose(slot).lost_one();
+        if per_mille(once.dice) < 500 {
+            return once;
         }
         once.come(slot, ra, bytes)
     }
 
-    // A frame that is not lost arrives now, or later.
+    // A frame comes to the channel's end, and is lost there or arrives.
     fn come(self, slot: usize, ra: &mut [u8], bytes: &[u8]) -> Run
         requires { ⌜ Sound self ⌝ }
         requires { ⌜ slot < 8 ⌝ }
         ensures { λ r. ⌜ Sound r ⌝ }
     {
         let once = self.rolled();
-        if per_mille(once.dice) < 500 {
-            return once;
+        if per_mille(once.dice) < once.loss {
+            return once.lose(slot).lost_one();
         }
         once.deliver(slot, ra, bytes)
     }
@@ -495,6 +505,9 @@ impl Run {
         let t = self.tally.gave(bytes);
         next.tally = t;
         next.broken = !io::write_all(STDOUT_FILENO, bytes);
+        if next.broken {
+            say(b"carry: standard output cannot be written\n");
+        }
         next
     }
 

@@ -90,7 +90,7 @@ fn argument(i: usize, other: u64, low: u64, high: u64) -> Number {
     Number::Is(x)
 }
 
-// The decimal number that the text is. Bad for no text, for another sign than a digit, and for a number of more than eleven digits or so.
+// The decimal number that the text is. Bad for no text, for any sign that is no digit, and for a number far above every limit here.
 fn parsed(text: &[u8]) -> Number {
     if text.len() == 0 {
         return Number::Bad;

@@ -10,7 +10,7 @@ pub struct Tally {
     pub taken_sum: u64,
     pub given: u64,
     pub given_sum: u64,
-    // Frames.
+    // Frames: put into the channel, lost by the dice, kept by the dice to arrive again.
     pub sent: u64,
     pub lost: u64,
     pub repeated: u64,
