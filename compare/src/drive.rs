@@ -464,7 +464,7 @@ fn call(dice: &mut Dice, object: &str, state: &str) -> String {
             match dice.below(9) {
                 0..=3 => format!("rs.insert {start} {}", start.saturating_add(dice.pick(&[0, 0, 1, 2, 9, 40]))),
                 4 => format!("rs.push_item {start}"),
-                5 => format!("rs.remove_until {}", dice.near(&[0, 5, 30, 150])),
+                5 => format!("rs.remove_until {}", dice.near(&[far, 0, 5, 30, 150])),
                 6 => format!("rs.contains {start}"),
                 _ => dice.pick(&["rs.len", "rs.last", "rs.iter", "rs.eq 0 20"]).into(),
             }
