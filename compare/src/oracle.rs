@@ -21,6 +21,7 @@ use script::bytes_text;
 use script::chunk_text;
 use script::option;
 use script::ranges_text;
+use script::window_text;
 use script::Call;
 use script::Side;
 
@@ -66,14 +67,7 @@ mod flowcontrol {
 
     pub fn show(f: &FlowControl, zero: Instant) -> String {
         let last = f.last_update.map(|t| t.duration_since(zero).as_micros() as u64);
-        format!(
-            "consumed={} limit={} window={} maximum={} last={}",
-            f.consumed,
-            f.max_data,
-            f.window,
-            f.max_window,
-            super::option(last)
-        )
+        crate::window_text(f.consumed, f.max_data, f.window, f.max_window, last)
     }
 }
 

@@ -20,6 +20,7 @@ use script::bytes_text;
 use script::chunk_text;
 use script::option;
 use script::ranges_text;
+use script::window_text;
 use script::Call;
 use script::Side;
 
@@ -65,14 +66,7 @@ fn set_text(set: &RangeSetState) -> String {
 }
 
 fn flow_text(f: &FlowControlState) -> String {
-    format!(
-        "consumed={} limit={} window={} maximum={} last={}",
-        f.consumed,
-        f.max_data,
-        f.window,
-        f.max_window,
-        number(f.last_update)
-    )
+    window_text(f.consumed, f.max_data, f.window, f.max_window, f.last_update.get())
 }
 
 fn stored(arena: &[u8], from: u64, to: u64) -> impl Iterator<Item = u8> + '_ {

@@ -54,6 +54,12 @@ pub fn chunk_text(off: u64, len: u64, consumed: u64) -> String {
     format!("{off}+{len}~{consumed}")
 }
 
+/// A window as a state shows it.
+pub fn window_text(consumed: u64, limit: u64, window: u64, maximum: u64, last: Option<u64>) -> String {
+    let last = option(last);
+    format!("consumed={consumed} limit={limit} window={window} maximum={maximum} last={last}")
+}
+
 /// A call of the script: the object, the call, its words, and the same as numbers (0 where a word is none).
 pub struct Call<'a> {
     pub object: &'a str,
