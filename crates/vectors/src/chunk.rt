@@ -1,0 +1,145 @@
+// The calls of a chunk (`rb.`): each is made on a good chunk, and hands a good one on beside its answer's text.
+ghost use Rattle.range_buf.specs.State.{Good};
+ghost use Rattle.range_buf.proofs.Kept.{GoodRight};
+use super::shapes;
+use super::text;
+use super::words::Words;
+use range_buf::RangeBuf;
+use range_buf::SplitAnswer;
+use refusal::Answer;
+
+// The chunk after a call, the length of the answer's text (0: not understood), and whether the call created the chunk.
+pub struct Step {
+    pub buf: RangeBuf,
+    pub at: usize,
+    pub made: bool,
+}
+
+pub fn call(buf: RangeBuf, name: &[u8], w: Words, out: &mut [u8]) -> Step
+    requires { ⌜ Good buf ⌝ }
+    ensures { λ r. ⌜ Good (r .buf) ⌝ }
+{
+    if w.is(name, b"new", shapes::NB) {
+        return new(buf, w.first, w.bytes as u64, out);
+    }
+    if w.is(name, b"consume", shapes::N) {
+        return told(consumed(buf, w.first), out);
+    }
+    if w.is(name, b"split", shapes::NP) {
+        return split(buf, w.first, w.right, out);
+    }
+    Step {
+        buf,
+        at: asked(buf, name, w, out),
+        made: false,
+    }
+}
+
+fn asked(buf: RangeBuf, name: &[u8], w: Words, out: &mut [u8]) -> usize
+    requires { ⌜ Good buf ⌝ }
+{
+    if w.is(name, b"off", shapes::NONE) {
+        return text::ok_number(out, buf.off());
+    }
+    if w.is(name, b"max_off", shapes::NONE) {
+        return text::ok_number(out, buf.max_off());
+    }
+    if w.is(name, b"len", shapes::NONE) {
+        return text::ok_number(out, buf.len());
+    }
+    if w.is(name, b"is_empty", shapes::NONE) {
+        return text::ok_flag(out, buf.is_empty());
+    }
+    0
+}
+
+fn new(old: RangeBuf, off: u64, len: u64, out: &mut [u8]) -> Step
+    requires { ⌜ Good old ⌝ }
+    ensures { λ r. ⌜ Good (r .buf) ⌝ }
+{
+    let done = created(off, len);
+    let said = done.answer;
+    let buf = done.buf;
+    let at = text::plain(out, said);
+    let Answer::Done = said else {
+        return Step {
+            buf: old,
+            at,
+            made: false,
+        };
+    };
+    Step {
+        buf,
+        at,
+        made: true,
+    }
+}
+
+fn told(done: range_buf::Outcome, out: &mut [u8]) -> Step
+    requires { ⌜ Good (done .buf) ⌝ }
+    ensures { λ r. ⌜ Good (r .buf) ⌝ }
+{
+    let said = done.answer;
+    let buf = done.buf;
+    let at = text::plain(out, said);
+    Step {
+        buf,
+        at,
+        made: false,
+    }
+}
+
+// Answers with the right part. `right` says which part stays the current chunk.
+fn split(old: RangeBuf, off: u64, right: bool, out: &mut [u8]) -> Step
+    requires { ⌜ Good old ⌝ }
+    ensures { λ r. ⌜ Good (r .buf) ⌝ }
+{
+    let done = parts(old, off);
+    let said = done.answer;
+    let left = done.buf;
+    match said {
+        SplitAnswer::Right(part) => {
+            let a = text::word(out, 0, b"ok ");
+            let at = text::chunk(out, a, part);
+            if right {
+                return Step {
+                    buf: part,
+                    at,
+                    made: false,
+                };
+            }
+            Step {
+                buf: left,
+                at,
+                made: false,
+            }
+        }
+        SplitAnswer::Refused(why) => Step {
+            buf: left,
+            at: text::refused(out, 0, why),
+            made: false,
+        },
+    }
+}
+
+// ---- the calls themselves, with what their laws say: the chunk that each leaves is good
+
+pub fn created(off: u64, len: u64) -> range_buf::Outcome
+    ensures { λ r. ⌜ Good (r .buf) ⌝ }
+{
+    RangeBuf::from(off, len)
+}
+
+fn consumed(buf: RangeBuf, count: u64) -> range_buf::Outcome
+    requires { ⌜ Good buf ⌝ }
+    ensures { λ r. ⌜ Good (r .buf) ⌝ }
+{
+    buf.consume(count)
+}
+
+fn parts(buf: RangeBuf, at: u64) -> range_buf::SplitOutcome
+    requires { ⌜ Good buf ⌝ }
+    ensures { λ r. ⌜ Good (r .buf) × GoodRight (r .answer) ⌝ }
+{
+    buf.split_off(at)
+}

@@ -1,0 +1,356 @@
+// The calls of a receive buffer (`r.`): each is made on a good buffer, and hands a good one on beside its answer's text.
+ghost use Rattle.recv_buf.specs.State.{Good};
+ghost use Rattle.flowcontrol.specs.State.{Good as GoodFlow};
+use super::shapes;
+use super::text;
+use super::window;
+use super::words::Words;
+use flowcontrol::FlowControl;
+use recv_buf::RecvBuf;
+use refusal::Answer;
+
+// The buffer after a call, the length of the answer's text (0: not understood), and whether the call created the buffer.
+pub struct Step {
+    pub buf: RecvBuf,
+    pub at: usize,
+    pub made: bool,
+}
+
+// `arena` is what the call is lent, and `input` the bytes of its line.
+pub fn call(
+    buf: RecvBuf,
+    name: &[u8],
+    w: Words,
+    arena: &mut [u8],
+    input: &[u8],
+    out: &mut [u8],
+) -> Step
+    requires { ⌜ Good buf ⌝ }
+    ensures { λ r. ⌜ Good (r .buf) ⌝ }
+{
+    if w.is(name, b"new", shapes::NNN) {
+        return new(buf, w.first, w.second, arena, out);
+    }
+    if w.lends(name, b"write", shapes::NBN) {
+        return write(buf, arena, w, input, out);
+    }
+    if w.lends(name, b"emit", shapes::N) {
+        return emit(buf, arena, w.first, out);
+    }
+    other_call(buf, name, w, out)
+}
+
+// A call that takes no arena.
+fn other_call(buf: RecvBuf, name: &[u8], w: Words, out: &mut [u8]) -> Step
+    requires { ⌜ Good buf ⌝ }
+    ensures { λ r. ⌜ Good (r .buf) ⌝ }
+{
+    if w.is(name, b"discard", shapes::N) {
+        return taken(discarded(buf, w.first), out);
+    }
+    if w.is(name, b"reset", shapes::NN) {
+        return sized(was_reset(buf, w.first, w.second), out);
+    }
+    if w.is(name, b"shutdown", shapes::NONE) {
+        return counted(shut(buf), out);
+    }
+    if w.is(name, b"commit", shapes::N) {
+        return changed(committed(buf, w.first), out);
+    }
+    if w.is(name, b"autotune", shapes::NN) {
+        return changed(autotuned(buf, w.first, w.second), out);
+    }
+    window_call(buf, name, w, out)
+}
+
+// A call on the buffer's window record, or a question.
+fn window_call(buf: RecvBuf, name: &[u8], w: Words, out: &mut [u8]) -> Step
+    requires { ⌜ Good buf ⌝ }
+    ensures { λ r. ⌜ Good (r .buf) ⌝ }
+{
+    if w.is(name, b"fc.add_consumed", shapes::N) {
+        return add_consumed(buf, w.first, out);
+    }
+    if w.is(name, b"fc.lower_bound", shapes::N) {
+        return lower_bound(buf, w.first, out);
+    }
+    if w.is(name, b"readable_len", shapes::N) {
+        return Step {
+            buf,
+            at: text::ok_number(out, buf.readable_len(w.first)),
+            made: false,
+        };
+    }
+    if w.is(name, b"get", shapes::NONE) {
+        return Step {
+            buf,
+            at: get(buf, out),
+            made: false,
+        };
+    }
+    Step {
+        buf,
+        at: 0,
+        made: false,
+    }
+}
+
+// All getters.
+fn get(buf: RecvBuf, out: &mut [u8]) -> usize
+    requires { ⌜ Good buf ⌝ }
+{
+    let a = text::named(out, 0, b"ok off_front=", buf.off_front());
+    let b = text::named(out, a, b" max_off=", buf.max_off());
+    let c = text::flag(out, b, b" is_fin=", buf.is_fin());
+    let d = text::flag(out, c, b" is_draining=", buf.is_draining());
+    let e = text::flag(out, d, b" ready=", buf.ready());
+    let f = text::named(out, e, b" max_data=", buf.max_data());
+    let g = text::named(out, f, b" window=", buf.window());
+    let h = text::named(out, g, b" max_data_next=", buf.max_data_next());
+    let i = text::named(out, h, b" readable_len=", buf.readable_len(u64::MAX));
+    text::flag(out, i, b" almost_full=", buf.almost_full())
+}
+
+// A receive buffer as a state shows it. `arena` is its own.
+pub fn state(out: &mut [u8], at: usize, buf: RecvBuf, arena: &[u8]) -> usize {
+    let table = buf.data;
+    let a = text::word(out, at, b"chunks=");
+    let b = text::chunks(out, a, table, buf.count);
+    let c = text::word(out, b, b" kept=");
+    let d = text::held(out, c, table, buf.count, false, arena);
+    let e = text::named(out, d, b" off=", buf.off);
+    let f = text::named(out, e, b" len=", buf.len);
+    let fin = buf.fin_off;
+    let g = text::optional(out, f, b" fin=", fin);
+    let error = buf.error;
+    let h = text::optional(out, g, b" err=", error);
+    let i = text::flag(out, h, b" drain=", buf.drain);
+    let j = text::byte(out, i, b' ');
+    let flow = buf.flow_control;
+    window::state(out, j, flow)
+}
+
+// A new buffer finds the arena as zeros.
+fn new(old: RecvBuf, max_data: u64, max_window: u64, arena: &mut [u8], out: &mut [u8]) -> Step
+    requires { ⌜ Good old ⌝ }
+    ensures { λ r. ⌜ Good (r .buf) ⌝ }
+{
+    let done = created(max_data, max_window, arena);
+    let said = done.answer;
+    let buf = done.buf;
+    let at = text::plain(out, said);
+    let Answer::Done = said else {
+        return Step {
+            buf: old,
+            at,
+            made: false,
+        };
+    };
+    super::words::clear(arena);
+    Step {
+        buf,
+        at,
+        made: true,
+    }
+}
+
+// A mark is 1 or 0.
+fn write(old: RecvBuf, arena: &mut [u8], w: Words, input: &[u8], out: &mut [u8]) -> Step
+    requires { ⌜ Good old ⌝ }
+    ensures { λ r. ⌜ Good (r .buf) ⌝ }
+{
+    let mark = w.second;
+    if 1 < mark {
+        return Step {
+            buf: old,
+            at: 0,
+            made: false,
+        };
+    }
+    told(written(old, arena, w.first, input, mark == 1), out)
+}
+
+// A room above the largest arena is as good as one byte above it.
+fn emit(old: RecvBuf, arena: &[u8], asked: u64, out: &mut [u8]) -> Step
+    requires { ⌜ Good old ⌝ }
+    ensures { λ r. ⌜ Good (r .buf) ⌝ }
+{
+    let mut room = [0u8; 65537];
+    let n = refusal::least(asked, 65537) as usize;
+    let done = emitted(old, arena, &mut room[0..n]);
+    let said = done.answer;
+    let buf = done.buf;
+    let at = text::emitted(out, said, &room);
+    Step {
+        buf,
+        at,
+        made: false,
+    }
+}
+
+fn add_consumed(buf: RecvBuf, n: u64, out: &mut [u8]) -> Step
+    requires { ⌜ Good buf ⌝ }
+    ensures { λ r. ⌜ Good (r .buf) ⌝ }
+{
+    let step = window::told(window::consumed_more(flow_of(buf), n), out);
+    let flow = step.flow;
+    Step {
+        buf: with_flow(buf, flow),
+        at: step.at,
+        made: false,
+    }
+}
+
+fn lower_bound(buf: RecvBuf, n: u64, out: &mut [u8]) -> Step
+    requires { ⌜ Good buf ⌝ }
+    ensures { λ r. ⌜ Good (r .buf) ⌝ }
+{
+    let step = window::told(window::at_least(flow_of(buf), n), out);
+    let flow = step.flow;
+    Step {
+        buf: with_flow(buf, flow),
+        at: step.at,
+        made: false,
+    }
+}
+
+fn told(done: recv_buf::Outcome, out: &mut [u8]) -> Step
+    requires { ⌜ Good (done .buf) ⌝ }
+    ensures { λ r. ⌜ Good (r .buf) ⌝ }
+{
+    let said = done.answer;
+    let buf = done.buf;
+    let at = text::plain(out, said);
+    Step {
+        buf,
+        at,
+        made: false,
+    }
+}
+
+fn counted(done: recv_buf::CountOutcome, out: &mut [u8]) -> Step
+    requires { ⌜ Good (done .buf) ⌝ }
+    ensures { λ r. ⌜ Good (r .buf) ⌝ }
+{
+    let said = done.answer;
+    let buf = done.buf;
+    let at = text::count(out, said);
+    Step {
+        buf,
+        at,
+        made: false,
+    }
+}
+
+fn sized(done: recv_buf::SizesOutcome, out: &mut [u8]) -> Step
+    requires { ⌜ Good (done .buf) ⌝ }
+    ensures { λ r. ⌜ Good (r .buf) ⌝ }
+{
+    let said = done.answer;
+    let buf = done.buf;
+    let at = text::sizes(out, said);
+    Step {
+        buf,
+        at,
+        made: false,
+    }
+}
+
+fn taken(done: recv_buf::EmitOutcome, out: &mut [u8]) -> Step
+    requires { ⌜ Good (done .buf) ⌝ }
+    ensures { λ r. ⌜ Good (r .buf) ⌝ }
+{
+    let said = done.answer;
+    let buf = done.buf;
+    let at = text::taken(out, said);
+    Step {
+        buf,
+        at,
+        made: false,
+    }
+}
+
+// A call that always succeeds.
+fn changed(buf: RecvBuf, out: &mut [u8]) -> Step
+    requires { ⌜ Good buf ⌝ }
+    ensures { λ r. ⌜ Good (r .buf) ⌝ }
+{
+    let at = text::ok(out);
+    Step {
+        buf,
+        at,
+        made: false,
+    }
+}
+
+// ---- the calls themselves, with what their laws say: the buffer that each leaves is good
+
+pub fn created(max_data: u64, max_window: u64, arena: &[u8]) -> recv_buf::Outcome
+    ensures { λ r. ⌜ Good (r .buf) ⌝ }
+{
+    RecvBuf::new(max_data, max_window, arena)
+}
+
+fn written(buf: RecvBuf, arena: &mut [u8], off: u64, input: &[u8], fin: bool) -> recv_buf::Outcome
+    requires { ⌜ Good buf ⌝ }
+    ensures { λ r. ⌜ Good (r .buf) ⌝ }
+{
+    buf.write(arena, off, input, fin)
+}
+
+fn emitted(buf: RecvBuf, arena: &[u8], room: &mut [u8]) -> recv_buf::EmitOutcome
+    requires { ⌜ Good buf ⌝ }
+    ensures { λ r. ⌜ Good (r .buf) ⌝ }
+{
+    buf.emit(arena, room)
+}
+
+fn discarded(buf: RecvBuf, len: u64) -> recv_buf::EmitOutcome
+    requires { ⌜ Good buf ⌝ }
+    ensures { λ r. ⌜ Good (r .buf) ⌝ }
+{
+    buf.discard(len)
+}
+
+fn was_reset(buf: RecvBuf, code: u64, size: u64) -> recv_buf::SizesOutcome
+    requires { ⌜ Good buf ⌝ }
+    ensures { λ r. ⌜ Good (r .buf) ⌝ }
+{
+    buf.reset(code, size)
+}
+
+fn shut(buf: RecvBuf) -> recv_buf::CountOutcome
+    requires { ⌜ Good buf ⌝ }
+    ensures { λ r. ⌜ Good (r .buf) ⌝ }
+{
+    buf.shutdown()
+}
+
+fn committed(buf: RecvBuf, now: u64) -> RecvBuf
+    requires { ⌜ Good buf ⌝ }
+    ensures { λ r. ⌜ Good r ⌝ }
+{
+    buf.update_max_data(now)
+}
+
+fn autotuned(buf: RecvBuf, now: u64, rtt: u64) -> RecvBuf
+    requires { ⌜ Good buf ⌝ }
+    ensures { λ r. ⌜ Good r ⌝ }
+{
+    buf.autotune_window(now, rtt)
+}
+
+fn flow_of(buf: RecvBuf) -> FlowControl
+    requires { ⌜ Good buf ⌝ }
+    ensures { λ r. ⌜ GoodFlow r ⌝ }
+{
+    buf.flow_control()
+}
+
+fn with_flow(buf: RecvBuf, flow: FlowControl) -> RecvBuf
+    requires { ⌜ Good buf ⌝ }
+    requires { ⌜ GoodFlow flow ⌝ }
+    ensures { λ r. ⌜ Good r ⌝ }
+{
+    buf.set_flow_control(flow)
+}

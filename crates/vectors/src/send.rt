@@ -1,0 +1,345 @@
+// The calls of a send buffer (`s.`): each is made on a good buffer, and hands a good one on beside its answer's text.
+ghost use Rattle.send_buf.specs.State.{Good};
+use super::shapes;
+use super::text;
+use super::words::Words;
+use refusal::Answer;
+use refusal::CountAnswer;
+use refusal::OptionU64;
+use send_buf::SendBuf;
+
+// The buffer after a call, the length of the answer's text (0: not understood), and whether the call created the buffer.
+pub struct Step {
+    pub buf: SendBuf,
+    pub at: usize,
+    pub made: bool,
+}
+
+// `arena` is what the call is lent, and `input` the bytes of its line.
+pub fn call(
+    buf: SendBuf,
+    name: &[u8],
+    w: Words,
+    arena: &mut [u8],
+    input: &[u8],
+    out: &mut [u8],
+) -> Step
+    requires { ⌜ Good buf ⌝ }
+    ensures { λ r. ⌜ Good (r .buf) ⌝ }
+{
+    if w.is(name, b"new", shapes::NN) {
+        return new(buf, w.first, arena, out);
+    }
+    if w.lends(name, b"write", shapes::BN) {
+        return write(buf, arena, input, w.first, out);
+    }
+    if w.lends(name, b"emit", shapes::N) {
+        return emit(buf, arena, w.first, out);
+    }
+    other_call(buf, name, w, out)
+}
+
+// A call that takes no arena.
+fn other_call(buf: SendBuf, name: &[u8], w: Words, out: &mut [u8]) -> Step
+    requires { ⌜ Good buf ⌝ }
+    ensures { λ r. ⌜ Good (r .buf) ⌝ }
+{
+    if w.is(name, b"ack", shapes::NN) {
+        return told(acked(buf, w.first, w.second), out);
+    }
+    if w.is(name, b"ack_and_drop", shapes::NN) {
+        return counted(dropped(buf, w.first, w.second), out);
+    }
+    if w.is(name, b"retransmit", shapes::NN) {
+        return counted(lost(buf, w.first, w.second), out);
+    }
+    if w.is(name, b"update_max_data", shapes::N) {
+        return told(raised(buf, w.first), out);
+    }
+    if w.is(name, b"update_blocked_at", shapes::N) {
+        return changed(blocked(buf, OptionU64::Some(w.first)), out);
+    }
+    if w.is(name, b"update_blocked_at", shapes::DASH) {
+        return changed(blocked(buf, OptionU64::None), out);
+    }
+    closing_call(buf, name, w, out)
+}
+
+fn closing_call(buf: SendBuf, name: &[u8], w: Words, out: &mut [u8]) -> Step
+    requires { ⌜ Good buf ⌝ }
+    ensures { λ r. ⌜ Good (r .buf) ⌝ }
+{
+    if w.is(name, b"reset", shapes::NONE) {
+        return sized(was_reset(buf), out);
+    }
+    if w.is(name, b"stop", shapes::N) {
+        return sized(stopped(buf, w.first), out);
+    }
+    if w.is(name, b"shutdown", shapes::NONE) {
+        return sized(shut(buf), out);
+    }
+    if w.is(name, b"get", shapes::NONE) {
+        return Step {
+            buf,
+            at: get(buf, out),
+            made: false,
+        };
+    }
+    Step {
+        buf,
+        at: 0,
+        made: false,
+    }
+}
+
+// All getters.
+fn get(buf: SendBuf, out: &mut [u8]) -> usize
+    requires { ⌜ Good buf ⌝ }
+{
+    let a = text::named(out, 0, b"ok off_back=", buf.off_back());
+    let b = text::named(out, a, b" off_front=", buf.off_front());
+    let c = text::named(out, b, b" max_off=", buf.max_off());
+    let d = text::flag(out, c, b" is_fin=", buf.is_fin());
+    let e = text::flag(out, d, b" is_complete=", buf.is_complete());
+    let f = text::flag(out, e, b" is_stopped=", buf.is_stopped());
+    let g = text::flag(out, f, b" is_shutdown=", buf.is_shutdown());
+    let h = text::flag(out, g, b" is_empty=", buf.is_empty());
+    let i = text::named(out, h, b" ack_off=", buf.ack_off());
+    let j = cap(buf, out, i);
+    let k = text::named(out, j, b" bufs_count=", buf.bufs_count() as u64);
+    let l = text::named(out, k, b" buffered_bytes=", buf.buffered_bytes());
+    text::optional(out, l, b" blocked_at=", buf.blocked_at())
+}
+
+// The room that the limit leaves; a refusal in parentheses.
+fn cap(buf: SendBuf, out: &mut [u8], at: usize) -> usize
+    requires { ⌜ Good buf ⌝ }
+{
+    let said = buf.cap();
+    match said {
+        CountAnswer::Count(n) => text::named(out, at, b" cap=", n),
+        CountAnswer::Refused(why) => {
+            let a = text::word(out, at, b" cap=(");
+            let b = text::refused(out, a, why);
+            text::byte(out, b, b')')
+        }
+    }
+}
+
+// A send buffer as a state shows it. `arena` is its own.
+pub fn state(out: &mut [u8], at: usize, buf: SendBuf, arena: &[u8]) -> usize {
+    let table = buf.data;
+    let a = text::word(out, at, b"chunks=");
+    let b = text::chunks(out, a, table, buf.count);
+    let c = text::word(out, b, b" held=");
+    let d = text::held(out, c, table, buf.count, true, arena);
+    let e = text::named(out, d, b" pos=", buf.pos as u64);
+    let f = text::named(out, e, b" off=", buf.off);
+    let g = text::named(out, f, b" emitted=", buf.emit_off);
+    let h = text::named(out, g, b" tosend=", buf.buffered_bytes);
+    let i = text::named(out, h, b" limit=", buf.max_data);
+    state_end(out, i, buf)
+}
+
+fn state_end(out: &mut [u8], at: usize, buf: SendBuf) -> usize {
+    let blocked = buf.blocked_at;
+    let a = text::optional(out, at, b" blocked=", blocked);
+    let fin = buf.fin_off;
+    let b = text::optional(out, a, b" fin=", fin);
+    let c = text::word(out, b, b" acked=");
+    let acked = buf.acked;
+    let d = super::set::state(out, c, acked);
+    let e = text::flag(out, d, b" shut=", buf.shutdown);
+    let error = buf.error;
+    text::optional(out, e, b" err=", error)
+}
+
+// A new buffer finds the arena as zeros.
+fn new(old: SendBuf, max_data: u64, arena: &mut [u8], out: &mut [u8]) -> Step
+    requires { ⌜ Good old ⌝ }
+    ensures { λ r. ⌜ Good (r .buf) ⌝ }
+{
+    let done = created(max_data, arena);
+    let said = done.answer;
+    let buf = done.buf;
+    let at = text::plain(out, said);
+    let Answer::Done = said else {
+        return Step {
+            buf: old,
+            at,
+            made: false,
+        };
+    };
+    super::words::clear(arena);
+    Step {
+        buf,
+        at,
+        made: true,
+    }
+}
+
+// A mark is 1 or 0.
+fn write(old: SendBuf, arena: &mut [u8], input: &[u8], mark: u64, out: &mut [u8]) -> Step
+    requires { ⌜ Good old ⌝ }
+    ensures { λ r. ⌜ Good (r .buf) ⌝ }
+{
+    if 1 < mark {
+        return Step {
+            buf: old,
+            at: 0,
+            made: false,
+        };
+    }
+    counted(written(old, arena, input, mark == 1), out)
+}
+
+// A room above the largest arena is as good as one byte above it.
+fn emit(old: SendBuf, arena: &[u8], asked: u64, out: &mut [u8]) -> Step
+    requires { ⌜ Good old ⌝ }
+    ensures { λ r. ⌜ Good (r .buf) ⌝ }
+{
+    let mut room = [0u8; 65537];
+    let n = refusal::least(asked, 65537) as usize;
+    let done = emitted(old, arena, &mut room[0..n]);
+    let said = done.answer;
+    let buf = done.buf;
+    let at = text::emitted(out, said, &room);
+    Step {
+        buf,
+        at,
+        made: false,
+    }
+}
+
+fn told(done: send_buf::Outcome, out: &mut [u8]) -> Step
+    requires { ⌜ Good (done .buf) ⌝ }
+    ensures { λ r. ⌜ Good (r .buf) ⌝ }
+{
+    let said = done.answer;
+    let buf = done.buf;
+    let at = text::plain(out, said);
+    Step {
+        buf,
+        at,
+        made: false,
+    }
+}
+
+fn counted(done: send_buf::CountOutcome, out: &mut [u8]) -> Step
+    requires { ⌜ Good (done .buf) ⌝ }
+    ensures { λ r. ⌜ Good (r .buf) ⌝ }
+{
+    let said = done.answer;
+    let buf = done.buf;
+    let at = text::count(out, said);
+    Step {
+        buf,
+        at,
+        made: false,
+    }
+}
+
+fn sized(done: send_buf::SizesOutcome, out: &mut [u8]) -> Step
+    requires { ⌜ Good (done .buf) ⌝ }
+    ensures { λ r. ⌜ Good (r .buf) ⌝ }
+{
+    let said = done.answer;
+    let buf = done.buf;
+    let at = text::sizes(out, said);
+    Step {
+        buf,
+        at,
+        made: false,
+    }
+}
+
+// A call that always succeeds.
+fn changed(buf: SendBuf, out: &mut [u8]) -> Step
+    requires { ⌜ Good buf ⌝ }
+    ensures { λ r. ⌜ Good (r .buf) ⌝ }
+{
+    let at = text::ok(out);
+    Step {
+        buf,
+        at,
+        made: false,
+    }
+}
+
+// ---- the calls themselves, with what their laws say: the buffer that each leaves is good
+
+pub fn created(max_data: u64, arena: &[u8]) -> send_buf::Outcome
+    ensures { λ r. ⌜ Good (r .buf) ⌝ }
+{
+    SendBuf::new(max_data, arena)
+}
+
+fn written(buf: SendBuf, arena: &mut [u8], input: &[u8], fin: bool) -> send_buf::CountOutcome
+    requires { ⌜ Good buf ⌝ }
+    ensures { λ r. ⌜ Good (r .buf) ⌝ }
+{
+    buf.write(arena, input, fin)
+}
+
+fn emitted(buf: SendBuf, arena: &[u8], room: &mut [u8]) -> send_buf::EmitOutcome
+    requires { ⌜ Good buf ⌝ }
+    ensures { λ r. ⌜ Good (r .buf) ⌝ }
+{
+    buf.emit(arena, room)
+}
+
+fn acked(buf: SendBuf, off: u64, len: u64) -> send_buf::Outcome
+    requires { ⌜ Good buf ⌝ }
+    ensures { λ r. ⌜ Good (r .buf) ⌝ }
+{
+    buf.ack(off, len)
+}
+
+fn dropped(buf: SendBuf, off: u64, len: u64) -> send_buf::CountOutcome
+    requires { ⌜ Good buf ⌝ }
+    ensures { λ r. ⌜ Good (r .buf) ⌝ }
+{
+    buf.ack_and_drop(off, len)
+}
+
+fn lost(buf: SendBuf, off: u64, len: u64) -> send_buf::CountOutcome
+    requires { ⌜ Good buf ⌝ }
+    ensures { λ r. ⌜ Good (r .buf) ⌝ }
+{
+    buf.retransmit(off, len)
+}
+
+fn raised(buf: SendBuf, max_data: u64) -> send_buf::Outcome
+    requires { ⌜ Good buf ⌝ }
+    ensures { λ r. ⌜ Good (r .buf) ⌝ }
+{
+    buf.update_max_data(max_data)
+}
+
+fn blocked(buf: SendBuf, at: OptionU64) -> SendBuf
+    requires { ⌜ Good buf ⌝ }
+    ensures { λ r. ⌜ Good r ⌝ }
+{
+    buf.update_blocked_at(at)
+}
+
+fn was_reset(buf: SendBuf) -> send_buf::SizesOutcome
+    requires { ⌜ Good buf ⌝ }
+    ensures { λ r. ⌜ Good (r .buf) ⌝ }
+{
+    buf.reset()
+}
+
+fn stopped(buf: SendBuf, code: u64) -> send_buf::SizesOutcome
+    requires { ⌜ Good buf ⌝ }
+    ensures { λ r. ⌜ Good (r .buf) ⌝ }
+{
+    buf.stop(code)
+}
+
+fn shut(buf: SendBuf) -> send_buf::SizesOutcome
+    requires { ⌜ Good buf ⌝ }
+    ensures { λ r. ⌜ Good (r .buf) ⌝ }
+{
+    buf.shutdown()
+}

@@ -1,0 +1,153 @@
+// The calls of a window (`fc.`): each is made on a good window, and hands a good one on beside its answer's text.
+ghost use Rattle.flowcontrol.specs.State.{Good};
+use super::shapes;
+use super::text;
+use super::words::Words;
+use flowcontrol::FlowControl;
+use refusal::Answer;
+
+// The window after a call, the length of the answer's text (0: not understood), and whether the call created the window.
+pub struct Step {
+    pub flow: FlowControl,
+    pub at: usize,
+    pub made: bool,
+}
+
+pub fn call(flow: FlowControl, name: &[u8], w: Words, out: &mut [u8]) -> Step
+    requires { ⌜ Good flow ⌝ }
+    ensures { λ r. ⌜ Good (r .flow) ⌝ }
+{
+    if w.is(name, b"new", shapes::NNN) {
+        return new(flow, w, out);
+    }
+    if w.is(name, b"add_consumed", shapes::N) {
+        return told(consumed_more(flow, w.first), out);
+    }
+    if w.is(name, b"commit", shapes::N) {
+        return changed(committed(flow, w.first), out);
+    }
+    if w.is(name, b"autotune", shapes::NN) {
+        return changed(autotuned(flow, w.first, w.second), out);
+    }
+    if w.is(name, b"lower_bound", shapes::N) {
+        return told(at_least(flow, w.first), out);
+    }
+    Step {
+        flow,
+        at: asked(flow, name, w, out),
+        made: false,
+    }
+}
+
+fn asked(flow: FlowControl, name: &[u8], w: Words, out: &mut [u8]) -> usize
+    requires { ⌜ Good flow ⌝ }
+{
+    if w.is(name, b"window", shapes::NONE) {
+        return text::ok_number(out, flow.window());
+    }
+    if w.is(name, b"max_data", shapes::NONE) {
+        return text::ok_number(out, flow.max_data());
+    }
+    if w.is(name, b"should_update", shapes::NONE) {
+        return text::ok_flag(out, flow.should_update_max_data());
+    }
+    if w.is(name, b"next", shapes::NONE) {
+        return text::ok_number(out, flow.max_data_next());
+    }
+    0
+}
+
+// A window as a state shows it.
+pub fn state(out: &mut [u8], at: usize, flow: FlowControl) -> usize {
+    let a = text::named(out, at, b"consumed=", flow.consumed);
+    let b = text::named(out, a, b" limit=", flow.max_data);
+    let c = text::named(out, b, b" window=", flow.window);
+    let d = text::named(out, c, b" maximum=", flow.max_window);
+    let last = flow.last_update;
+    text::optional(out, d, b" last=", last)
+}
+
+fn new(old: FlowControl, w: Words, out: &mut [u8]) -> Step
+    requires { ⌜ Good old ⌝ }
+    ensures { λ r. ⌜ Good (r .flow) ⌝ }
+{
+    let done = created(w.first, w.second, w.third);
+    let said = done.answer;
+    let flow = done.flow;
+    let at = text::plain(out, said);
+    let Answer::Done = said else {
+        return Step {
+            flow: old,
+            at,
+            made: false,
+        };
+    };
+    Step {
+        flow,
+        at,
+        made: true,
+    }
+}
+
+pub fn told(done: flowcontrol::Outcome, out: &mut [u8]) -> Step
+    requires { ⌜ Good (done .flow) ⌝ }
+    ensures { λ r. ⌜ Good (r .flow) ⌝ }
+{
+    let said = done.answer;
+    let flow = done.flow;
+    let at = text::plain(out, said);
+    Step {
+        flow,
+        at,
+        made: false,
+    }
+}
+
+// A call that always succeeds.
+fn changed(flow: FlowControl, out: &mut [u8]) -> Step
+    requires { ⌜ Good flow ⌝ }
+    ensures { λ r. ⌜ Good (r .flow) ⌝ }
+{
+    let at = text::ok(out);
+    Step {
+        flow,
+        at,
+        made: false,
+    }
+}
+
+// ---- the calls themselves, with what their laws say: the window that each leaves is good
+
+pub fn created(max_data: u64, window: u64, max_window: u64) -> flowcontrol::Outcome
+    ensures { λ r. ⌜ Good (r .flow) ⌝ }
+{
+    FlowControl::new(max_data, window, max_window)
+}
+
+pub fn consumed_more(flow: FlowControl, n: u64) -> flowcontrol::Outcome
+    requires { ⌜ Good flow ⌝ }
+    ensures { λ r. ⌜ Good (r .flow) ⌝ }
+{
+    flow.add_consumed(n)
+}
+
+pub fn at_least(flow: FlowControl, n: u64) -> flowcontrol::Outcome
+    requires { ⌜ Good flow ⌝ }
+    ensures { λ r. ⌜ Good (r .flow) ⌝ }
+{
+    flow.ensure_window_lower_bound(n)
+}
+
+fn committed(flow: FlowControl, now: u64) -> FlowControl
+    requires { ⌜ Good flow ⌝ }
+    ensures { λ r. ⌜ Good r ⌝ }
+{
+    flow.update_max_data(now)
+}
+
+fn autotuned(flow: FlowControl, now: u64, rtt: u64) -> FlowControl
+    requires { ⌜ Good flow ⌝ }
+    ensures { λ r. ⌜ Good r ⌝ }
+{
+    flow.autotune_window(now, rtt)
+}
