@@ -97,28 +97,40 @@ fn split(old: RangeBuf, off: u64, right: bool, out: &mut [u8]) -> Step
     let done = parts(old, off);
     let said = done.answer;
     let left = done.buf;
+    let at = split_text(out, said);
+    if right {
+        return Step {
+            buf: right_of(said, left),
+            at,
+            made: false,
+        };
+    }
+    Step {
+        buf: left,
+        at,
+        made: false,
+    }
+}
+
+fn split_text(out: &mut [u8], said: SplitAnswer) -> usize {
     match said {
         SplitAnswer::Right(part) => {
             let a = text::word(out, 0, b"ok ");
-            let at = text::chunk(out, a, part);
-            if right {
-                return Step {
-                    buf: part,
-                    at,
-                    made: false,
-                };
-            }
-            Step {
-                buf: left,
-                at,
-                made: false,
-            }
+            text::chunk(out, a, part)
         }
-        SplitAnswer::Refused(why) => Step {
-            buf: left,
-            at: text::refused(out, 0, why),
-            made: false,
-        },
+        SplitAnswer::Refused(why) => text::refused(out, 0, why),
+    }
+}
+
+// The right part, or where there is none the chunk as it stands.
+fn right_of(said: SplitAnswer, left: RangeBuf) -> RangeBuf
+    requires { ⌜ GoodRight said ⌝ }
+    requires { ⌜ Good left ⌝ }
+    ensures { λ r. ⌜ Good r ⌝ }
+{
+    match said {
+        SplitAnswer::Right(part) => part,
+        SplitAnswer::Refused(_) => left,
     }
 }
 

@@ -104,11 +104,17 @@ fn get(buf: RecvBuf, out: &mut [u8]) -> usize
     let c = text::flag(out, b, b" is_fin=", buf.is_fin());
     let d = text::flag(out, c, b" is_draining=", buf.is_draining());
     let e = text::flag(out, d, b" ready=", buf.ready());
-    let f = text::named(out, e, b" max_data=", buf.max_data());
-    let g = text::named(out, f, b" window=", buf.window());
-    let h = text::named(out, g, b" max_data_next=", buf.max_data_next());
-    let i = text::named(out, h, b" readable_len=", buf.readable_len(u64::MAX));
-    text::flag(out, i, b" almost_full=", buf.almost_full())
+    get_more(buf, out, e)
+}
+
+fn get_more(buf: RecvBuf, out: &mut [u8], at: usize) -> usize
+    requires { ⌜ Good buf ⌝ }
+{
+    let a = text::named(out, at, b" max_data=", buf.max_data());
+    let b = text::named(out, a, b" window=", buf.window());
+    let c = text::named(out, b, b" max_data_next=", buf.max_data_next());
+    let d = text::named(out, c, b" readable_len=", buf.readable_len(u64::MAX));
+    text::flag(out, d, b" almost_full=", buf.almost_full())
 }
 
 // A receive buffer as a state shows it. `arena` is its own.

@@ -103,12 +103,18 @@ fn get(buf: SendBuf, out: &mut [u8]) -> usize
     let e = text::flag(out, d, b" is_complete=", buf.is_complete());
     let f = text::flag(out, e, b" is_stopped=", buf.is_stopped());
     let g = text::flag(out, f, b" is_shutdown=", buf.is_shutdown());
-    let h = text::flag(out, g, b" is_empty=", buf.is_empty());
-    let i = text::named(out, h, b" ack_off=", buf.ack_off());
-    let j = cap(buf, out, i);
-    let k = text::named(out, j, b" bufs_count=", buf.bufs_count() as u64);
-    let l = text::named(out, k, b" buffered_bytes=", buf.buffered_bytes());
-    text::optional(out, l, b" blocked_at=", buf.blocked_at())
+    get_more(buf, out, g)
+}
+
+fn get_more(buf: SendBuf, out: &mut [u8], at: usize) -> usize
+    requires { ⌜ Good buf ⌝ }
+{
+    let a = text::flag(out, at, b" is_empty=", buf.is_empty());
+    let b = text::named(out, a, b" ack_off=", buf.ack_off());
+    let c = cap(buf, out, b);
+    let d = text::named(out, c, b" bufs_count=", buf.bufs_count() as u64);
+    let e = text::named(out, d, b" buffered_bytes=", buf.buffered_bytes());
+    text::optional(out, e, b" blocked_at=", buf.blocked_at())
 }
 
 // The room that the limit leaves; a refusal in parentheses.
