@@ -249,13 +249,20 @@ impl Run {
         requires { ⌜ Sound (self .objects) ⌝ }
         ensures { λ r. ⌜ Sound (r .objects) ⌝ }
     {
-        let end = words::word_end(line, 0);
-        if words::same(&line[0..end], b"seq") {
+        if words::is_seq(line) {
             return self.afresh();
         }
+        let n = text::word(call, 0, line);
+        self.called(line, n, sa, ra, ours)
+    }
+
+    // A call, whose text of `n` bytes is kept for the report.
+    fn called(self, line: &[u8], n: usize, sa: &mut [u8], ra: &mut [u8], ours: &mut [u8]) -> Run
+        requires { ⌜ Sound (self .objects) ⌝ }
+        ensures { λ r. ⌜ Sound (r .objects) ⌝ }
+    {
         let objects = self.objects;
         let turn = objects.call(line, sa, ra, ours);
-        let n = text::word(call, 0, line);
         let after = turn.objects;
         let mut next = self;
         next.objects = after;

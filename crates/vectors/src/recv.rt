@@ -124,16 +124,20 @@ pub fn state(out: &mut [u8], at: usize, buf: RecvBuf, arena: &[u8]) -> usize {
     let b = text::chunks(out, a, table, buf.count);
     let c = text::word(out, b, b" kept=");
     let d = text::held(out, c, table, buf.count, false, arena);
-    let e = text::named(out, d, b" off=", buf.off);
-    let f = text::named(out, e, b" len=", buf.len);
+    state_end(out, d, buf)
+}
+
+fn state_end(out: &mut [u8], at: usize, buf: RecvBuf) -> usize {
+    let a = text::named(out, at, b" off=", buf.off);
+    let b = text::named(out, a, b" len=", buf.len);
     let fin = buf.fin_off;
-    let g = text::optional(out, f, b" fin=", fin);
+    let c = text::optional(out, b, b" fin=", fin);
     let error = buf.error;
-    let h = text::optional(out, g, b" err=", error);
-    let i = text::flag(out, h, b" drain=", buf.drain);
-    let j = text::byte(out, i, b' ');
+    let d = text::optional(out, c, b" err=", error);
+    let e = text::flag(out, d, b" drain=", buf.drain);
+    let f = text::byte(out, e, b' ');
     let flow = buf.flow_control;
-    window::state(out, j, flow)
+    window::state(out, f, flow)
 }
 
 // A new buffer finds the arena as zeros.
@@ -182,11 +186,18 @@ fn emit(old: RecvBuf, arena: &[u8], asked: u64, out: &mut [u8]) -> Step
     ensures { λ r. ⌜ Good (r .buf) ⌝ }
 {
     let mut room = [0u8; 65537];
-    let n = refusal::least(asked, 65537) as usize;
+    emit_into(old, arena, asked, &mut room, out)
+}
+
+fn emit_into(old: RecvBuf, arena: &[u8], asked: u64, room: &mut [u8], out: &mut [u8]) -> Step
+    requires { ⌜ Good old ⌝ }
+    ensures { λ r. ⌜ Good (r .buf) ⌝ }
+{
+    let n = refusal::least(asked, room.len() as u64) as usize;
     let done = emitted(old, arena, &mut room[0..n]);
     let said = done.answer;
     let buf = done.buf;
-    let at = text::emitted(out, said, &room);
+    let at = text::emitted(out, said, room);
     Step {
         buf,
         at,

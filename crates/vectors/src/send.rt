@@ -101,20 +101,26 @@ fn get(buf: SendBuf, out: &mut [u8]) -> usize
     let c = text::named(out, b, b" max_off=", buf.max_off());
     let d = text::flag(out, c, b" is_fin=", buf.is_fin());
     let e = text::flag(out, d, b" is_complete=", buf.is_complete());
-    let f = text::flag(out, e, b" is_stopped=", buf.is_stopped());
-    let g = text::flag(out, f, b" is_shutdown=", buf.is_shutdown());
-    get_more(buf, out, g)
+    get_more(buf, out, e)
 }
 
 fn get_more(buf: SendBuf, out: &mut [u8], at: usize) -> usize
     requires { ⌜ Good buf ⌝ }
 {
-    let a = text::flag(out, at, b" is_empty=", buf.is_empty());
-    let b = text::named(out, a, b" ack_off=", buf.ack_off());
-    let c = cap(buf, out, b);
-    let d = text::named(out, c, b" bufs_count=", buf.bufs_count() as u64);
-    let e = text::named(out, d, b" buffered_bytes=", buf.buffered_bytes());
-    text::optional(out, e, b" blocked_at=", buf.blocked_at())
+    let a = text::flag(out, at, b" is_stopped=", buf.is_stopped());
+    let b = text::flag(out, a, b" is_shutdown=", buf.is_shutdown());
+    let c = text::flag(out, b, b" is_empty=", buf.is_empty());
+    let d = text::named(out, c, b" ack_off=", buf.ack_off());
+    get_rest(buf, out, d)
+}
+
+fn get_rest(buf: SendBuf, out: &mut [u8], at: usize) -> usize
+    requires { ⌜ Good buf ⌝ }
+{
+    let a = cap(buf, out, at);
+    let b = text::named(out, a, b" bufs_count=", buf.bufs_count() as u64);
+    let c = text::named(out, b, b" buffered_bytes=", buf.buffered_bytes());
+    text::optional(out, c, b" blocked_at=", buf.blocked_at())
 }
 
 // The room that the limit leaves; a refusal in parentheses.
@@ -139,12 +145,16 @@ pub fn state(out: &mut [u8], at: usize, buf: SendBuf, arena: &[u8]) -> usize {
     let b = text::chunks(out, a, table, buf.count);
     let c = text::word(out, b, b" held=");
     let d = text::held(out, c, table, buf.count, true, arena);
-    let e = text::named(out, d, b" pos=", buf.pos as u64);
-    let f = text::named(out, e, b" off=", buf.off);
-    let g = text::named(out, f, b" emitted=", buf.emit_off);
-    let h = text::named(out, g, b" tosend=", buf.buffered_bytes);
-    let i = text::named(out, h, b" limit=", buf.max_data);
-    state_end(out, i, buf)
+    state_numbers(out, d, buf)
+}
+
+fn state_numbers(out: &mut [u8], at: usize, buf: SendBuf) -> usize {
+    let a = text::named(out, at, b" pos=", buf.pos as u64);
+    let b = text::named(out, a, b" off=", buf.off);
+    let c = text::named(out, b, b" emitted=", buf.emit_off);
+    let d = text::named(out, c, b" tosend=", buf.buffered_bytes);
+    let e = text::named(out, d, b" limit=", buf.max_data);
+    state_end(out, e, buf)
 }
 
 fn state_end(out: &mut [u8], at: usize, buf: SendBuf) -> usize {
@@ -205,11 +215,18 @@ fn emit(old: SendBuf, arena: &[u8], asked: u64, out: &mut [u8]) -> Step
     ensures { λ r. ⌜ Good (r .buf) ⌝ }
 {
     let mut room = [0u8; 65537];
-    let n = refusal::least(asked, 65537) as usize;
+    emit_into(old, arena, asked, &mut room, out)
+}
+
+fn emit_into(old: SendBuf, arena: &[u8], asked: u64, room: &mut [u8], out: &mut [u8]) -> Step
+    requires { ⌜ Good old ⌝ }
+    ensures { λ r. ⌜ Good (r .buf) ⌝ }
+{
+    let n = refusal::least(asked, room.len() as u64) as usize;
     let done = emitted(old, arena, &mut room[0..n]);
     let said = done.answer;
     let buf = done.buf;
-    let at = text::emitted(out, said, &room);
+    let at = text::emitted(out, said, room);
     Step {
         buf,
         at,

@@ -58,6 +58,12 @@ pub fn word_end(line: &[u8], from: usize) -> usize
     i
 }
 
+// Does the line start a sequence?
+pub fn is_seq(line: &[u8]) -> bool {
+    let end = word_end(line, 0);
+    same(&line[0..end], b"seq")
+}
+
 // The index of the first sign of that kind, or the text's length.
 pub fn index_of(text: &[u8], sign: u8) -> usize
     ensures { λ r. ⌜ r ≤ length (now (text .entry)) ⌝ }

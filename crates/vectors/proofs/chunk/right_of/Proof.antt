@@ -1,22 +1,19 @@
+-- `chunk::right_of` hands back a good chunk. Assumes nothing.
+use mathlib.Core.Path.{subst}
+use Rattle.range_buf.proofs.Kept.{GoodRight}
 use borrow.Author.Needs.{needs}
 use Rattle.vectors.proofs.chunk.right_of.Statement.{statement}
 use Rattle.vectors.proofs.chunk.right_of.Tie as tie
-use Rattle.vectors.proofs.chunk.right_of.Reads as reads
-use Rattle.vectors.proofs.chunk.right_of.Lts as lts
 
--- src/chunk.rt:132:28
 enum-known-said : tie.Need-enum-known-said
 enum-known-said c = search needs
 
--- src/chunk.rt:133:36
 enum-told : tie.Need-enum-told
 enum-told c = search needs
 
--- src/chunk.rt:126:1
 returns : tie.Need-returns
-returns c = ?
+returns c = subst GoodRight (c .before .said .given .1) (c .before .before .before .pre .0)
 
--- src/chunk.rt:126:1
 returns-2 : tie.Need-returns-2
 returns-2 c = search needs
 
