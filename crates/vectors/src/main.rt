@@ -101,7 +101,7 @@ fn rounds(
     next
 }
 
-fn closed(run: Run, call: &[u8], stored: &[u8], ours: &[u8]) {
+fn closed(run: Run, call: &[u8; 8192], stored: &[u8; 8192], ours: &[u8; 8192]) {
     let case = run.case;
     let tally = run.tally;
     let reader = run.reader;
