@@ -67,6 +67,11 @@ impl Case {
         self.state != NOTHING
     }
 
+    // Is a stored line to be passed over?
+    pub fn is_passed(self) -> bool {
+        self.state == PASSED
+    }
+
     // Quiche's line, `< ANSWER | STATE`.
     pub fn quiche(self, line: &[u8], stored: &mut [u8], ours: &[u8]) -> Case {
         if line.len() < 2 {
@@ -96,9 +101,6 @@ impl Case {
 
     // Holds our line against a stored one.
     fn held(self, state: u64, text: &[u8], stored: &mut [u8], ours: &[u8]) -> Case {
-        if self.state == PASSED {
-            return self;
-        }
         let n = refusal::least(self.ours as u64, ours.len() as u64) as usize;
         if words::same(text, &ours[0..n]) {
             let mut c = self;
