@@ -1,53 +1,76 @@
 // The calls of a chunk (`rb.`): each is made on a good chunk, and hands a good one on beside its answer's text.
 ghost use Rattle.range_buf.specs.State.{Good};
 ghost use Rattle.range_buf.proofs.Kept.{GoodRight};
-use super::shapes;
+use super::names;
 use super::text;
 use super::words::Words;
 use range_buf::RangeBuf;
 use range_buf::SplitAnswer;
 use refusal::Answer;
 
-// The chunk after a call, the length of the answer's text (0: not understood), and whether the call created the chunk.
+// The chunk after a call, the length of its text (0: not understood), and whether the call created the chunk.
 pub struct Step {
     pub buf: RangeBuf,
     pub at: usize,
     pub made: bool,
 }
 
-pub fn call(buf: RangeBuf, name: &[u8], w: Words, out: &mut [u8]) -> Step
+// A call by its number, with `ANSWER | STATE` put into `out`. `has` says whether the object is there.
+pub fn turn(old: RangeBuf, has: bool, what: u64, w: Words, out: &mut [u8]) -> Step
+    requires { ⌜ Good old ⌝ }
+    ensures { λ r. ⌜ Good (r .buf) ⌝ }
+{
+    let step = call(old, what, w, out);
+    let buf = step.buf;
+    if text::no_state(has, step.made) {
+        return Step {
+            buf: old,
+            at: text::without_state(out, step.at, what == names::NEW),
+            made: false,
+        };
+    }
+    let a = text::word(out, step.at, b" | ");
+    let at = text::chunk(out, a, buf);
+    Step {
+        buf,
+        at,
+        made: true,
+    }
+}
+
+fn call(buf: RangeBuf, what: u64, w: Words, out: &mut [u8]) -> Step
     requires { ⌜ Good buf ⌝ }
     ensures { λ r. ⌜ Good (r .buf) ⌝ }
 {
-    if w.is(name, b"new", shapes::NB) {
+    if what == names::NEW {
         return new(buf, w.first, w.bytes as u64, out);
     }
-    if w.is(name, b"consume", shapes::N) {
+    if what == names::CONSUME {
         return told(consumed(buf, w.first), out);
     }
-    if w.is(name, b"split", shapes::NP) {
+    if what == names::SPLIT {
         return split(buf, w.first, w.right, out);
     }
     Step {
         buf,
-        at: asked(buf, name, w, out),
+        at: asked(buf, what, w, out),
         made: false,
     }
 }
 
-fn asked(buf: RangeBuf, name: &[u8], w: Words, out: &mut [u8]) -> usize
+fn asked(buf: RangeBuf, what: u64, w: Words, out: &mut [u8]) -> usize
     requires { ⌜ Good buf ⌝ }
 {
-    if w.is(name, b"off", shapes::NONE) {
+    if what == names::OFF {
         return text::ok_number(out, buf.off());
     }
-    if w.is(name, b"max_off", shapes::NONE) {
+    if what == names::MAX_OFF {
         return text::ok_number(out, buf.max_off());
     }
-    if w.is(name, b"len", shapes::NONE) {
+    if what == names::LEN {
         return text::ok_number(out, buf.len());
     }
-    if w.is(name, b"is_empty", shapes::NONE) {
+    if what == names::IS_EMPTY {
         return text::ok_flag(out, buf.is_empty());
     }
     0

@@ -10,6 +10,7 @@
 // Any bytes may stand on standard input. A line that is no call is counted as not understood, and one of 8,192 bytes or more as differing.
 mod case;
 mod chunk;
+mod names;
 mod objects;
 mod reader;
 mod recv;

@@ -1,7 +1,7 @@
 // The calls of a receive buffer (`r.`): each is made on a good buffer, and hands a good one on beside its answer's text.
 ghost use Rattle.recv_buf.specs.State.{Good};
 ghost use Rattle.flowcontrol.specs.State.{Good as GoodFlow};
-use super::shapes;
+use super::names;
 use super::text;
 use super::window;
 use super::words::Words;
@@ -9,79 +9,124 @@ use flowcontrol::FlowControl;
 use recv_buf::RecvBuf;
 use refusal::Answer;
 
-// The buffer after a call, the length of the answer's text (0: not understood), and whether the call created the buffer.
+// The buffer after a call, the length of its text (0: not understood), and whether the call created the buffer.
 pub struct Step {
     pub buf: RecvBuf,
     pub at: usize,
     pub made: bool,
 }
 
-// `arena` is what the call is lent, and `input` the bytes of its line.
-pub fn call(
-    buf: RecvBuf,
-    name: &[u8],
+// A call by its number, with `ANSWER | STATE` put into `out`. `has` says whether the object is there, and a part of `own` is its arena.
+pub fn turn(
+    old: RecvBuf,
+    has: bool,
+    what: u64,
     w: Words,
-    arena: &mut [u8],
     input: &[u8],
+    own: &mut [u8],
     out: &mut [u8],
 ) -> Step
+    requires { ⌜ Good old ⌝ }
+    ensures { λ r. ⌜ Good (r .buf) ⌝ }
+{
+    let step = lent(old, what, w, input, own, out);
+    let buf = step.buf;
+    if text::no_state(has, step.made) {
+        return Step {
+            buf: old,
+            at: text::without_state(out, step.at, what == names::NEW),
+            made: false,
+        };
+    }
+    let at = with_state(out, step.at, buf, own);
+    Step {
+        buf,
+        at,
+        made: true,
+    }
+}
+
+// The call is lent its own arena, or other zeros where the line says so. At creation the arena is as long as the line asks. (The arrays have
+// 65,537 bytes. All above the largest arena is refused alike, so a creation that asks for more is lent 65,537.)
+fn lent(old: RecvBuf, what: u64, w: Words, input: &[u8], own: &mut [u8], out: &mut [u8]) -> Step
+    requires { ⌜ Good old ⌝ }
+    ensures { λ r. ⌜ Good (r .buf) ⌝ }
+{
+    if w.other {
+        let mut other = [0u8; 65537];
+        let n = refusal::least(w.arena, 65537) as usize;
+        return call(old, what, w, &mut other[0..n], input, out);
+    }
+    let asked = text::either(what == names::NEW, w.third, old.arena_len as u64);
+    let n = refusal::least(asked, own.len() as u64) as usize;
+    call(old, what, w, &mut own[0..n], input, out)
+}
+
+fn with_state(out: &mut [u8], at: usize, buf: RecvBuf, own: &[u8]) -> usize {
+    let n = refusal::least(buf.arena_len as u64, own.len() as u64) as usize;
+    let a = text::word(out, at, b" | ");
+    state(out, a, buf, &own[0..n])
+}
+
+// `arena` is what the call is lent, and `input` the bytes of its line.
+fn call(buf: RecvBuf, what: u64, w: Words, arena: &mut [u8], input: &[u8], out: &mut [u8]) -> Step
     requires { ⌜ Good buf ⌝ }
     ensures { λ r. ⌜ Good (r .buf) ⌝ }
 {
-    if w.is(name, b"new", shapes::NNN) {
+    if what == names::NEW {
         return new(buf, w.first, w.second, arena, out);
     }
-    if w.lends(name, b"write", shapes::NBN) {
-        return write(buf, arena, w, input, out);
+    if what == names::WRITE {
+        return told(written(buf, arena, w.first, input, w.second == 1), out);
     }
-    if w.lends(name, b"emit", shapes::N) {
+    if what == names::EMIT {
         return emit(buf, arena, w.first, out);
     }
-    other_call(buf, name, w, out)
+    other_call(buf, what, w, out)
 }
 
 // A call that takes no arena.
-fn other_call(buf: RecvBuf, name: &[u8], w: Words, out: &mut [u8]) -> Step
+fn other_call(buf: RecvBuf, what: u64, w: Words, out: &mut [u8]) -> Step
     requires { ⌜ Good buf ⌝ }
     ensures { λ r. ⌜ Good (r .buf) ⌝ }
 {
-    if w.is(name, b"discard", shapes::N) {
+    if what == names::DISCARD {
         return taken(discarded(buf, w.first), out);
     }
-    if w.is(name, b"reset", shapes::NN) {
+    if what == names::RESET {
         return sized(was_reset(buf, w.first, w.second), out);
     }
-    if w.is(name, b"shutdown", shapes::NONE) {
+    if what == names::SHUTDOWN {
         return counted(shut(buf), out);
     }
-    if w.is(name, b"commit", shapes::N) {
+    if what == names::COMMIT {
         return changed(committed(buf, w.first), out);
     }
-    if w.is(name, b"autotune", shapes::NN) {
+    if what == names::AUTOTUNE {
         return changed(autotuned(buf, w.first, w.second), out);
     }
-    window_call(buf, name, w, out)
+    window_call(buf, what, w, out)
 }
 
 // A call on the buffer's window record, or a question.
-fn window_call(buf: RecvBuf, name: &[u8], w: Words, out: &mut [u8]) -> Step
+fn window_call(buf: RecvBuf, what: u64, w: Words, out: &mut [u8]) -> Step
     requires { ⌜ Good buf ⌝ }
     ensures { λ r. ⌜ Good (r .buf) ⌝ }
 {
-    if w.is(name, b"fc.add_consumed", shapes::N) {
+    if what == names::ADD_CONSUMED {
         return add_consumed(buf, w.first, out);
     }
-    if w.is(name, b"fc.lower_bound", shapes::N) {
+    if what == names::LOWER_BOUND {
         return lower_bound(buf, w.first, out);
     }
-    if w.is(name, b"readable_len", shapes::N) {
+    if what == names::READABLE_LEN {
         return Step {
             buf,
             at: text::ok_number(out, buf.readable_len(w.first)),
             made: false,
         };
     }
-    if w.is(name, b"get", shapes::NONE) {
+    if what == names::GET {
         return Step {
             buf,
             at: get(buf, out),
@@ -118,7 +163,7 @@ fn get_more(buf: RecvBuf, out: &mut [u8], at: usize) -> usize
 }
 
 // A receive buffer as a state shows it. `arena` is its own.
-pub fn state(out: &mut [u8], at: usize, buf: RecvBuf, arena: &[u8]) -> usize {
+fn state(out: &mut [u8], at: usize, buf: RecvBuf, arena: &[u8]) -> usize {
     let table = buf.data;
     let a = text::word(out, at, b"chunks=");
     let b = text::chunks(out, a, table, buf.count);
@@ -162,22 +207,6 @@ fn new(old: RecvBuf, max_data: u64, max_window: u64, arena: &mut [u8], out: &mut
         at,
         made: true,
     }
-}
-
-// A mark is 1 or 0.
-fn write(old: RecvBuf, arena: &mut [u8], w: Words, input: &[u8], out: &mut [u8]) -> Step
-    requires { ⌜ Good old ⌝ }
-    ensures { λ r. ⌜ Good (r .buf) ⌝ }
-{
-    let mark = w.second;
-    if 1 < mark {
-        return Step {
-            buf: old,
-            at: 0,
-            made: false,
-        };
-    }
-    told(written(old, arena, w.first, input, mark == 1), out)
 }
 
 // A room above the largest arena is as good as one byte above it.

@@ -1,6 +1,6 @@
 // The calls of a send buffer (`s.`): each is made on a good buffer, and hands a good one on beside its answer's text.
 ghost use Rattle.send_buf.specs.State.{Good};
-use super::shapes;
+use super::names;
 use super::text;
 use super::words::Words;
 use refusal::Answer;
@@ -8,77 +8,122 @@ use refusal::CountAnswer;
 use refusal::OptionU64;
 use send_buf::SendBuf;
 
-// The buffer after a call, the length of the answer's text (0: not understood), and whether the call created the buffer.
+// The buffer after a call, the length of its text (0: not understood), and whether the call created the buffer.
 pub struct Step {
     pub buf: SendBuf,
     pub at: usize,
     pub made: bool,
 }
 
-// `arena` is what the call is lent, and `input` the bytes of its line.
-pub fn call(
-    buf: SendBuf,
-    name: &[u8],
+// A call by its number, with `ANSWER | STATE` put into `out`. `has` says whether the object is there, and a part of `own` is its arena.
+pub fn turn(
+    old: SendBuf,
+    has: bool,
+    what: u64,
     w: Words,
-    arena: &mut [u8],
     input: &[u8],
+    own: &mut [u8],
     out: &mut [u8],
 ) -> Step
+    requires { ⌜ Good old ⌝ }
+    ensures { λ r. ⌜ Good (r .buf) ⌝ }
+{
+    let step = lent(old, what, w, input, own, out);
+    let buf = step.buf;
+    if text::no_state(has, step.made) {
+        return Step {
+            buf: old,
+            at: text::without_state(out, step.at, what == names::NEW),
+            made: false,
+        };
+    }
+    let at = with_state(out, step.at, buf, own);
+    Step {
+        buf,
+        at,
+        made: true,
+    }
+}
+
+// The call is lent its own arena, or other zeros where the line says so. At creation the arena is as long as the line asks. (The arrays have
+// 65,537 bytes. All above the largest arena is refused alike, so a creation that asks for more is lent 65,537.)
+fn lent(old: SendBuf, what: u64, w: Words, input: &[u8], own: &mut [u8], out: &mut [u8]) -> Step
+    requires { ⌜ Good old ⌝ }
+    ensures { λ r. ⌜ Good (r .buf) ⌝ }
+{
+    if w.other {
+        let mut other = [0u8; 65537];
+        let n = refusal::least(w.arena, 65537) as usize;
+        return call(old, what, w, &mut other[0..n], input, out);
+    }
+    let asked = text::either(what == names::NEW, w.second, old.arena_len as u64);
+    let n = refusal::least(asked, own.len() as u64) as usize;
+    call(old, what, w, &mut own[0..n], input, out)
+}
+
+fn with_state(out: &mut [u8], at: usize, buf: SendBuf, own: &[u8]) -> usize {
+    let n = refusal::least(buf.arena_len as u64, own.len() as u64) as usize;
+    let a = text::word(out, at, b" | ");
+    state(out, a, buf, &own[0..n])
+}
+
+// `arena` is what the call is lent, and `input` the bytes of its line.
+fn call(buf: SendBuf, what: u64, w: Words, arena: &mut [u8], input: &[u8], out: &mut [u8]) -> Step
     requires { ⌜ Good buf ⌝ }
     ensures { λ r. ⌜ Good (r .buf) ⌝ }
 {
-    if w.is(name, b"new", shapes::NN) {
+    if what == names::NEW {
         return new(buf, w.first, arena, out);
     }
-    if w.lends(name, b"write", shapes::BN) {
-        return write(buf, arena, input, w.first, out);
+    if what == names::WRITE {
+        return counted(written(buf, arena, input, w.first == 1), out);
     }
-    if w.lends(name, b"emit", shapes::N) {
+    if what == names::EMIT {
         return emit(buf, arena, w.first, out);
     }
-    other_call(buf, name, w, out)
+    other_call(buf, what, w, out)
 }
 
 // A call that takes no arena.
-fn other_call(buf: SendBuf, name: &[u8], w: Words, out: &mut [u8]) -> Step
+fn other_call(buf: SendBuf, what: u64, w: Words, out: &mut [u8]) -> Step
     requires { ⌜ Good buf ⌝ }
     ensures { λ r. ⌜ Good (r .buf) ⌝ }
 {
-    if w.is(name, b"ack", shapes::NN) {
+    if what == names::ACK {
         return told(acked(buf, w.first, w.second), out);
     }
-    if w.is(name, b"ack_and_drop", shapes::NN) {
+    if what == names::ACK_AND_DROP {
         return counted(dropped(buf, w.first, w.second), out);
     }
-    if w.is(name, b"retransmit", shapes::NN) {
+    if what == names::RETRANSMIT {
         return counted(lost(buf, w.first, w.second), out);
     }
-    if w.is(name, b"update_max_data", shapes::N) {
+    if what == names::UPDATE_MAX_DATA {
         return told(raised(buf, w.first), out);
     }
-    if w.is(name, b"update_blocked_at", shapes::N) {
+    if what == names::BLOCKED {
         return changed(blocked(buf, OptionU64::Some(w.first)), out);
     }
-    if w.is(name, b"update_blocked_at", shapes::DASH) {
+    if what == names::NOT_BLOCKED {
         return changed(blocked(buf, OptionU64::None), out);
     }
-    closing_call(buf, name, w, out)
+    closing_call(buf, what, w, out)
 }
 
-fn closing_call(buf: SendBuf, name: &[u8], w: Words, out: &mut [u8]) -> Step
+fn closing_call(buf: SendBuf, what: u64, w: Words, out: &mut [u8]) -> Step
     requires { ⌜ Good buf ⌝ }
     ensures { λ r. ⌜ Good (r .buf) ⌝ }
 {
-    if w.is(name, b"reset", shapes::NONE) {
+    if what == names::RESET {
         return sized(was_reset(buf), out);
     }
-    if w.is(name, b"stop", shapes::N) {
+    if what == names::STOP {
         return sized(stopped(buf, w.first), out);
     }
-    if w.is(name, b"shutdown", shapes::NONE) {
+    if what == names::SHUTDOWN {
         return sized(shut(buf), out);
     }
-    if w.is(name, b"get", shapes::NONE) {
+    if what == names::GET {
         return Step {
             buf,
             at: get(buf, out),
@@ -139,7 +184,7 @@ fn cap(buf: SendBuf, out: &mut [u8], at: usize) -> usize
 }
 
 // A send buffer as a state shows it. `arena` is its own.
-pub fn state(out: &mut [u8], at: usize, buf: SendBuf, arena: &[u8]) -> usize {
+fn state(out: &mut [u8], at: usize, buf: SendBuf, arena: &[u8]) -> usize {
     let table = buf.data;
     let a = text::word(out, at, b"chunks=");
     let b = text::chunks(out, a, table, buf.count);
@@ -192,21 +237,6 @@ fn new(old: SendBuf, max_data: u64, arena: &mut [u8], out: &mut [u8]) -> Step
         at,
         made: true,
     }
-}
-
-// A mark is 1 or 0.
-fn write(old: SendBuf, arena: &mut [u8], input: &[u8], mark: u64, out: &mut [u8]) -> Step
-    requires { ⌜ Good old ⌝ }
-    ensures { λ r. ⌜ Good (r .buf) ⌝ }
-{
-    if 1 < mark {
-        return Step {
-            buf: old,
-            at: 0,
-            made: false,
-        };
-    }
-    counted(written(old, arena, input, mark == 1), out)
 }
 
 // A room above the largest arena is as good as one byte above it.

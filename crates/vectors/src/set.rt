@@ -1,6 +1,6 @@
 // The calls of a range set (`rs.`): each is made on a good set, and hands a good one on beside its answer's text.
 ghost use Rattle.ranges.specs.State.{Good};
-use super::shapes;
+use super::names;
 use super::text;
 use super::words::Words;
 use ranges::OptionRange;
@@ -8,52 +8,75 @@ use ranges::Range;
 use ranges::RangeSet;
 use refusal::Answer;
 
-// The set after a call, the length of the answer's text (0: not understood), and whether the call created the set.
+// The set after a call, the length of its text (0: not understood), and whether the call created the set.
 pub struct Step {
     pub set: RangeSet,
     pub at: usize,
     pub made: bool,
 }
 
-pub fn call(set: RangeSet, name: &[u8], w: Words, out: &mut [u8]) -> Step
+// A call by its number, with `ANSWER | STATE` put into `out`. `has` says whether the object is there.
+pub fn turn(old: RangeSet, has: bool, what: u64, w: Words, out: &mut [u8]) -> Step
+    requires { ⌜ Good old ⌝ }
+    ensures { λ r. ⌜ Good (r .set) ⌝ }
+{
+    let step = call(old, what, w, out);
+    let set = step.set;
+    if text::no_state(has, step.made) {
+        return Step {
+            set: old,
+            at: text::without_state(out, step.at, what == names::NEW),
+            made: false,
+        };
+    }
+    let a = text::word(out, step.at, b" | ");
+    let at = state(out, a, set);
+    Step {
+        set,
+        at,
+        made: true,
+    }
+}
+
+fn call(set: RangeSet, what: u64, w: Words, out: &mut [u8]) -> Step
     requires { ⌜ Good set ⌝ }
     ensures { λ r. ⌜ Good (r .set) ⌝ }
 {
-    if w.is(name, b"new", shapes::N) {
+    if what == names::NEW {
         return new(set, w.first, out);
     }
-    if w.is(name, b"insert", shapes::NN) {
+    if what == names::INSERT {
         return told(inserted(set, w.first, w.second), out);
     }
-    if w.is(name, b"push_item", shapes::N) {
+    if what == names::PUSH_ITEM {
         return told(pushed(set, w.first), out);
     }
-    if w.is(name, b"remove_until", shapes::N) {
+    if what == names::REMOVE_UNTIL {
         return changed(removed(set, w.first), out);
     }
     Step {
         set,
-        at: asked(set, name, w, out),
+        at: asked(set, what, w, out),
         made: false,
     }
 }
 
-fn asked(set: RangeSet, name: &[u8], w: Words, out: &mut [u8]) -> usize
+fn asked(set: RangeSet, what: u64, w: Words, out: &mut [u8]) -> usize
     requires { ⌜ Good set ⌝ }
 {
-    if w.is(name, b"contains", shapes::N) {
+    if what == names::CONTAINS {
         return text::ok_flag(out, set.contains(w.first));
     }
-    if w.is(name, b"len", shapes::NONE) {
+    if what == names::LEN {
         return text::ok_number(out, set.len() as u64);
     }
-    if w.is(name, b"last", shapes::NONE) {
+    if what == names::LAST {
         return text::optional(out, 0, b"ok ", set.last());
     }
-    if w.is(name, b"iter", shapes::NONE) {
+    if what == names::ITER {
         return iter(set, out);
     }
-    if w.is(name, b"eq", shapes::NN) {
+    if what == names::EQ {
         return text::ok_flag(
             out,
             set.eq(Range {

@@ -199,6 +199,26 @@ fn first_bytes(out: &mut [u8], at: usize, n: u64, room: &[u8]) -> usize {
     bytes(out, at, &room[0..k])
 }
 
+// Is there no state to be told, since the object is not there?
+pub fn no_state(has: bool, made: bool) -> bool {
+    if made {
+        return false;
+    }
+    !has
+}
+
+// What is told then: behind a refused creation that there is no state, and of any other call neither answer nor state. A line that was
+// not understood stays so.
+pub fn without_state(out: &mut [u8], at: usize, new: bool) -> usize {
+    if at == 0 {
+        return 0;
+    }
+    if new {
+        return word(out, at, b" | -");
+    }
+    word(out, 0, b"- | -")
+}
+
 // ---- tables
 
 pub fn chunk(out: &mut [u8], at: usize, c: RangeBuf) -> usize {
@@ -291,4 +311,11 @@ fn sum(a: u64, b: u64) -> u64 {
         return a + b;
     }
     u64::MAX
+}
+
+pub fn either(first: bool, a: u64, b: u64) -> u64 {
+    if first {
+        return a;
+    }
+    b
 }

@@ -1,57 +1,80 @@
 // The calls of a window (`fc.`): each is made on a good window, and hands a good one on beside its answer's text.
 ghost use Rattle.flowcontrol.specs.State.{Good};
-use super::shapes;
+use super::names;
 use super::text;
 use super::words::Words;
 use flowcontrol::FlowControl;
 use refusal::Answer;
 
-// The window after a call, the length of the answer's text (0: not understood), and whether the call created the window.
+// The window after a call, the length of its text (0: not understood), and whether the call created the window.
 pub struct Step {
     pub flow: FlowControl,
     pub at: usize,
     pub made: bool,
 }
 
-pub fn call(flow: FlowControl, name: &[u8], w: Words, out: &mut [u8]) -> Step
+// A call by its number, with `ANSWER | STATE` put into `out`. `has` says whether the object is there.
+pub fn turn(old: FlowControl, has: bool, what: u64, w: Words, out: &mut [u8]) -> Step
+    requires { ⌜ Good old ⌝ }
+    ensures { λ r. ⌜ Good (r .flow) ⌝ }
+{
+    let step = call(old, what, w, out);
+    let flow = step.flow;
+    if text::no_state(has, step.made) {
+        return Step {
+            flow: old,
+            at: text::without_state(out, step.at, what == names::NEW),
+            made: false,
+        };
+    }
+    let a = text::word(out, step.at, b" | ");
+    let at = state(out, a, flow);
+    Step {
+        flow,
+        at,
+        made: true,
+    }
+}
+
+fn call(flow: FlowControl, what: u64, w: Words, out: &mut [u8]) -> Step
     requires { ⌜ Good flow ⌝ }
     ensures { λ r. ⌜ Good (r .flow) ⌝ }
 {
-    if w.is(name, b"new", shapes::NNN) {
+    if what == names::NEW {
         return new(flow, w, out);
     }
-    if w.is(name, b"add_consumed", shapes::N) {
+    if what == names::ADD_CONSUMED {
         return told(consumed_more(flow, w.first), out);
     }
-    if w.is(name, b"commit", shapes::N) {
+    if what == names::COMMIT {
         return changed(committed(flow, w.first), out);
     }
-    if w.is(name, b"autotune", shapes::NN) {
+    if what == names::AUTOTUNE {
         return changed(autotuned(flow, w.first, w.second), out);
     }
-    if w.is(name, b"lower_bound", shapes::N) {
+    if what == names::LOWER_BOUND {
         return told(at_least(flow, w.first), out);
     }
     Step {
         flow,
-        at: asked(flow, name, w, out),
+        at: asked(flow, what, w, out),
         made: false,
     }
 }
 
-fn asked(flow: FlowControl, name: &[u8], w: Words, out: &mut [u8]) -> usize
+fn asked(flow: FlowControl, what: u64, w: Words, out: &mut [u8]) -> usize
     requires { ⌜ Good flow ⌝ }
 {
-    if w.is(name, b"window", shapes::NONE) {
+    if what == names::WINDOW {
         return text::ok_number(out, flow.window());
     }
-    if w.is(name, b"max_data", shapes::NONE) {
+    if what == names::MAX_DATA {
         return text::ok_number(out, flow.max_data());
     }
-    if w.is(name, b"should_update", shapes::NONE) {
+    if what == names::SHOULD_UPDATE {
         return text::ok_flag(out, flow.should_update_max_data());
     }
-    if w.is(name, b"next", shapes::NONE) {
+    if what == names::NEXT {
         return text::ok_number(out, flow.max_data_next());
     }
     0
