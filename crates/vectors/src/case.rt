@@ -72,8 +72,19 @@ impl Case {
         self.state == PASSED
     }
 
+    // A stored line: quiche's or document 01's.
+    pub fn held_against(self, line: &[u8], stored: &mut [u8], ours: &[u8]) -> Case {
+        if line.len() == 0 {
+            return self;
+        }
+        if line[0] == b'<' {
+            return self.quiche(line, stored, ours);
+        }
+        self.ruled(line, stored, ours)
+    }
+
     // Quiche's line, `< ANSWER | STATE`.
-    pub fn quiche(self, line: &[u8], stored: &mut [u8], ours: &[u8]) -> Case {
+    fn quiche(self, line: &[u8], stored: &mut [u8], ours: &[u8]) -> Case {
         if line.len() < 2 {
             return self.differs(line, stored);
         }
@@ -81,7 +92,7 @@ impl Case {
     }
 
     // Document 01's line, `! D-nn ANSWER | STATE`.
-    pub fn ruled(self, line: &[u8], stored: &mut [u8], ours: &[u8]) -> Case {
+    fn ruled(self, line: &[u8], stored: &mut [u8], ours: &[u8]) -> Case {
         if line.len() < 4 {
             return self.differs(line, stored);
         }

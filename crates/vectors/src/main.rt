@@ -12,6 +12,7 @@ mod case;
 mod chunk;
 mod names;
 mod objects;
+mod page;
 mod reader;
 mod recv;
 mod send;
@@ -23,18 +24,12 @@ mod window;
 mod words;
 
 ghost use Rattle.vectors.specs.Sound.{Sound};
-use case::Case;
 use objects::Objects;
-use reader::Reader;
-use tally::Tally;
+use page::Page;
 
 pub struct Run {
     pub objects: Objects,
-    pub reader: Reader,
-    pub case: Case,
-    pub tally: Tally,
-    // How many lines were read.
-    pub lines: u64,
+    pub page: Page,
 }
 
 fn main() {
@@ -67,16 +62,8 @@ fn begin() -> Run
     ensures { λ r. ⌜ Sound (r .objects) ⌝ }
 {
     let objects = objects::none();
-    let reader = reader::new();
-    let case = case::none();
-    let tally = tally::new();
-    Run {
-        objects,
-        reader,
-        case,
-        tally,
-        lines: 0,
-    }
+    let page = page::new();
+    Run { objects, page }
 }
 
 // Line after line. A proved loop has to end, so it counts down, from a number that no list uses up.
@@ -103,16 +90,14 @@ fn rounds(
 }
 
 fn closed(run: Run, call: &[u8; 8192], stored: &[u8; 8192], ours: &[u8; 8192]) {
-    let case = run.case;
-    let tally = run.tally;
-    let reader = run.reader;
-    let all = case.settled(tally, call, stored, ours);
-    all.table(reader.broken);
+    let page = run.page;
+    page.closed(call, stored, ours);
 }
 
 impl Run {
     fn goes_on(self) -> bool {
-        let reader = self.reader;
+        let page = self.page;
+        let reader = page.reader;
         !reader.ended
     }
 
@@ -129,12 +114,12 @@ impl Run {
         requires { ⌜ Sound (self .objects) ⌝ }
         ensures { λ r. ⌜ Sound (r .objects) ⌝ }
     {
-        let before = self.reader;
-        let read = before.next(window, line);
+        let before = self.page;
+        let page = before.next(window, line);
         let mut next = self;
-        next.reader = read;
-        next.lines = tally::plus(self.lines, 1);
-        next.read(line, read.len, sa, ra, call, stored, ours)
+        next.page = page;
+        let reader = page.reader;
+        next.read(line, reader.len, sa, ra, call, stored, ours)
     }
 
     // A line of `len` bytes.
@@ -151,100 +136,24 @@ impl Run {
         requires { ⌜ Sound (self .objects) ⌝ }
         ensures { λ r. ⌜ Sound (r .objects) ⌝ }
     {
-        if line.len() <= len {
-            return self.too_long();
-        }
-        if len == 0 {
-            return self;
-        }
-        let sign = line[0];
-        if sign == b'#' {
-            return self;
-        }
-        if sign == b'<' {
-            return self.stored(true, &line[0..len], stored, ours);
-        }
-        if sign == b'!' {
-            return self.stored(false, &line[0..len], stored, ours);
-        }
-        let settled = self.settled(call, stored, ours);
-        settled.asked(&line[0..len], sa, ra, call, ours)
-    }
-
-    // A line that does not fit is reported, and the call that it may belong to has no further verdict.
-    fn too_long(self) -> Run
-        requires { ⌜ Sound (self .objects) ⌝ }
-        ensures { λ r. ⌜ Sound (r .objects) ⌝ }
-    {
-        tally::say(b"line ");
-        tally::counted(self.lines, b": too long\n");
+        let kind = words::kind(line, len);
+        let page = self.page;
         let mut next = self;
-        let t = self.tally;
-        let case = self.case;
-        let u = t.differs();
-        let c = case.passed();
-        next.tally = u;
-        next.case = c;
+        if kind == words::ASKED {
+            let settled = page.settled(call, stored, ours);
+            next.page = settled;
+            return next.asked(line, len, sa, ra, call, ours);
+        }
+        let read = page.read(kind, line, len, stored, ours);
+        next.page = read;
         next
     }
 
-    // A stored answer: quiche's, or document 01's.
-    fn stored(self, quiche: bool, line: &[u8], stored: &mut [u8], ours: &[u8]) -> Run
-        requires { ⌜ Sound (self .objects) ⌝ }
-        ensures { λ r. ⌜ Sound (r .objects) ⌝ }
-    {
-        let mut next = self;
-        let case = self.case;
-        if !case.waits() {
-            return self.not_understood();
-        }
-        if case.is_passed() {
-            return self;
-        }
-        if quiche {
-            let c = case.quiche(line, stored, ours);
-            next.case = c;
-            return next;
-        }
-        let c = case.ruled(line, stored, ours);
-        next.case = c;
-        next
-    }
-
-    fn not_understood(self) -> Run
-        requires { ⌜ Sound (self .objects) ⌝ }
-        ensures { λ r. ⌜ Sound (r .objects) ⌝ }
-    {
-        let mut next = self;
-        let t = self.tally;
-        let u = t.not_understood();
-        next.tally = u;
-        if u.unclear < 6 {
-            tally::say(b"line ");
-            tally::counted(self.lines, b": not understood\n");
-        }
-        next
-    }
-
-    // The call before is done with.
-    fn settled(self, call: &[u8], stored: &[u8], ours: &[u8]) -> Run
-        requires { ⌜ Sound (self .objects) ⌝ }
-        ensures { λ r. ⌜ Sound (r .objects) ⌝ }
-    {
-        let mut next = self;
-        let case = self.case;
-        let t = self.tally;
-        let u = case.settled(t, call, stored, ours);
-        let c = case::none();
-        next.tally = u;
-        next.case = c;
-        next
-    }
-
-    // The next line of the script: the start of a sequence, or a call.
+    // The next line of the script: the start of a sequence, or a call, whose text is kept for the report.
     fn asked(
         self,
         line: &[u8],
+        len: usize,
         sa: &mut [u8],
         ra: &mut [u8],
         call: &mut [u8],
@@ -253,48 +162,34 @@ impl Run {
         requires { ⌜ Sound (self .objects) ⌝ }
         ensures { λ r. ⌜ Sound (r .objects) ⌝ }
     {
-        if words::is_seq(line) {
+        if line.len() < len {
+            return self;
+        }
+        if words::is_seq(&line[0..len]) {
             return self.afresh();
         }
-        let n = text::word(call, 0, line);
-        self.called(line, n, sa, ra, ours)
+        let n = text::word(call, 0, &line[0..len]);
+        self.called(&line[0..len], n, sa, ra, ours)
     }
 
-    // A call, whose text of `n` bytes is kept for the report.
     fn called(self, line: &[u8], n: usize, sa: &mut [u8], ra: &mut [u8], ours: &mut [u8]) -> Run
         requires { ⌜ Sound (self .objects) ⌝ }
         ensures { λ r. ⌜ Sound (r .objects) ⌝ }
     {
-        let objects = self.objects;
-        let turn = objects.call(line, sa, ra, ours);
-        let after = turn.objects;
-        let mut next = self;
-        next.objects = after;
-        next.judged(turn.object, n, turn.at)
+        let before = self.objects;
+        let turn = before.call(line, sa, ra, ours);
+        let objects = turn.objects;
+        let old = self.page;
+        let page = old.judged(turn.object, n, turn.at);
+        Run { objects, page }
     }
 
-    fn judged(self, object: usize, call: usize, ours: usize) -> Run
-        requires { ⌜ Sound (self .objects) ⌝ }
-        ensures { λ r. ⌜ Sound (r .objects) ⌝ }
-    {
-        let mut next = self;
-        let c = case::made(self.lines, object, call, ours);
-        if ours == 0 {
-            let p = c.passed();
-            next.case = p;
-            return next.not_understood();
-        }
-        next.case = c;
-        next
-    }
-
+    // All objects gone.
     fn afresh(self) -> Run
-        requires { ⌜ Sound (self .objects) ⌝ }
         ensures { λ r. ⌜ Sound (r .objects) ⌝ }
     {
-        let mut next = self;
         let objects = objects::none();
-        next.objects = objects;
-        next
+        let page = self.page;
+        Run { objects, page }
     }
 }

@@ -8,6 +8,7 @@ use super::words::Words;
 use flowcontrol::FlowControl;
 use recv_buf::RecvBuf;
 use refusal::Answer;
+use refusal::OptionU64;
 
 // The buffer after a call, the length of its text (0: not understood), and whether the call created the buffer.
 pub struct Step {
@@ -144,22 +145,24 @@ fn window_call(buf: RecvBuf, what: u64, w: Words, out: &mut [u8]) -> Step
 fn get(buf: RecvBuf, out: &mut [u8]) -> usize
     requires { ⌜ Good buf ⌝ }
 {
-    let a = text::named(out, 0, b"ok off_front=", buf.off_front());
-    let b = text::named(out, a, b" max_off=", buf.max_off());
-    let c = text::flag(out, b, b" is_fin=", buf.is_fin());
-    let d = text::flag(out, c, b" is_draining=", buf.is_draining());
-    let e = text::flag(out, d, b" ready=", buf.ready());
-    get_more(buf, out, e)
-}
-
-fn get_more(buf: RecvBuf, out: &mut [u8], at: usize) -> usize
-    requires { ⌜ Good buf ⌝ }
-{
-    let a = text::named(out, at, b" max_data=", buf.max_data());
-    let b = text::named(out, a, b" window=", buf.window());
-    let c = text::named(out, b, b" max_data_next=", buf.max_data_next());
-    let d = text::named(out, c, b" readable_len=", buf.readable_len(u64::MAX));
-    text::flag(out, d, b" almost_full=", buf.almost_full())
+    let all = [
+        text::some(buf.off_front()),
+        text::some(buf.max_off()),
+        text::bit(buf.is_fin()),
+        text::bit(buf.is_draining()),
+        text::bit(buf.ready()),
+        text::some(buf.max_data()),
+        text::some(buf.window()),
+        text::some(buf.max_data_next()),
+        text::some(buf.readable_len(u64::MAX)),
+        text::bit(buf.almost_full()),
+    ];
+    text::form(
+        out,
+        0,
+        b"ok off_front=% max_off=% is_fin=% is_draining=% ready=% max_data=% window=% max_data_next=% readable_len=% almost_full=%",
+        all,
+    )
 }
 
 // A receive buffer as a state shows it. `arena` is its own.
@@ -173,16 +176,24 @@ fn state(out: &mut [u8], at: usize, buf: RecvBuf, arena: &[u8]) -> usize {
 }
 
 fn state_end(out: &mut [u8], at: usize, buf: RecvBuf) -> usize {
-    let a = text::named(out, at, b" off=", buf.off);
-    let b = text::named(out, a, b" len=", buf.len);
     let fin = buf.fin_off;
-    let c = text::optional(out, b, b" fin=", fin);
     let error = buf.error;
-    let d = text::optional(out, c, b" err=", error);
-    let e = text::flag(out, d, b" drain=", buf.drain);
-    let f = text::byte(out, e, b' ');
+    let none = OptionU64::None;
+    let numbers = [
+        text::some(buf.off),
+        text::some(buf.len),
+        fin,
+        error,
+        text::bit(buf.drain),
+        none,
+        none,
+        none,
+        none,
+        none,
+    ];
+    let a = text::form(out, at, b" off=% len=% fin=% err=% drain=% ", numbers);
     let flow = buf.flow_control;
-    window::state(out, f, flow)
+    window::state(out, a, flow)
 }
 
 // A new buffer finds the arena as zeros.

@@ -141,31 +141,34 @@ fn closing_call(buf: SendBuf, what: u64, w: Words, out: &mut [u8]) -> Step
 fn get(buf: SendBuf, out: &mut [u8]) -> usize
     requires { ⌜ Good buf ⌝ }
 {
-    let a = text::named(out, 0, b"ok off_back=", buf.off_back());
-    let b = text::named(out, a, b" off_front=", buf.off_front());
-    let c = text::named(out, b, b" max_off=", buf.max_off());
-    let d = text::flag(out, c, b" is_fin=", buf.is_fin());
-    let e = text::flag(out, d, b" is_complete=", buf.is_complete());
-    get_more(buf, out, e)
-}
-
-fn get_more(buf: SendBuf, out: &mut [u8], at: usize) -> usize
-    requires { ⌜ Good buf ⌝ }
-{
-    let a = text::flag(out, at, b" is_stopped=", buf.is_stopped());
-    let b = text::flag(out, a, b" is_shutdown=", buf.is_shutdown());
-    let c = text::flag(out, b, b" is_empty=", buf.is_empty());
-    let d = text::named(out, c, b" ack_off=", buf.ack_off());
-    get_rest(buf, out, d)
+    let first = [
+        text::some(buf.off_back()),
+        text::some(buf.off_front()),
+        text::some(buf.max_off()),
+        text::bit(buf.is_fin()),
+        text::bit(buf.is_complete()),
+        text::bit(buf.is_stopped()),
+        text::bit(buf.is_shutdown()),
+        text::bit(buf.is_empty()),
+        text::some(buf.ack_off()),
+        OptionU64::None,
+    ];
+    let a = text::form(
+        out,
+        0,
+        b"ok off_back=% off_front=% max_off=% is_fin=% is_complete=% is_stopped=% is_shutdown=% is_empty=% ack_off=%",
+        first,
+    );
+    let b = cap(buf, out, a);
+    get_rest(buf, out, b)
 }
 
 fn get_rest(buf: SendBuf, out: &mut [u8], at: usize) -> usize
     requires { ⌜ Good buf ⌝ }
 {
-    let a = cap(buf, out, at);
-    let b = text::named(out, a, b" bufs_count=", buf.bufs_count() as u64);
-    let c = text::named(out, b, b" buffered_bytes=", buf.buffered_bytes());
-    text::optional(out, c, b" blocked_at=", buf.blocked_at())
+    let a = text::named(out, at, b" bufs_count=", buf.bufs_count() as u64);
+    let b = text::named(out, a, b" buffered_bytes=", buf.buffered_bytes());
+    text::optional(out, b, b" blocked_at=", buf.blocked_at())
 }
 
 // The room that the limit leaves; a refusal in parentheses.
@@ -194,25 +197,32 @@ fn state(out: &mut [u8], at: usize, buf: SendBuf, arena: &[u8]) -> usize {
 }
 
 fn state_numbers(out: &mut [u8], at: usize, buf: SendBuf) -> usize {
-    let a = text::named(out, at, b" pos=", buf.pos as u64);
-    let b = text::named(out, a, b" off=", buf.off);
-    let c = text::named(out, b, b" emitted=", buf.emit_off);
-    let d = text::named(out, c, b" tosend=", buf.buffered_bytes);
-    let e = text::named(out, d, b" limit=", buf.max_data);
-    state_end(out, e, buf)
-}
-
-fn state_end(out: &mut [u8], at: usize, buf: SendBuf) -> usize {
     let blocked = buf.blocked_at;
-    let a = text::optional(out, at, b" blocked=", blocked);
     let fin = buf.fin_off;
-    let b = text::optional(out, a, b" fin=", fin);
-    let c = text::word(out, b, b" acked=");
-    let acked = buf.acked;
-    let d = super::set::state(out, c, acked);
-    let e = text::flag(out, d, b" shut=", buf.shutdown);
     let error = buf.error;
-    text::optional(out, e, b" err=", error)
+    let acked = buf.acked;
+    let none = OptionU64::None;
+    let numbers = [
+        text::some(buf.pos as u64),
+        text::some(buf.off),
+        text::some(buf.emit_off),
+        text::some(buf.buffered_bytes),
+        text::some(buf.max_data),
+        blocked,
+        fin,
+        none,
+        none,
+        none,
+    ];
+    let a = text::form(
+        out,
+        at,
+        b" pos=% off=% emitted=% tosend=% limit=% blocked=% fin=% acked=",
+        numbers,
+    );
+    let b = super::set::state(out, a, acked);
+    let c = text::flag(out, b, b" shut=", buf.shutdown);
+    text::optional(out, c, b" err=", error)
 }
 
 // A new buffer finds the arena as zeros.

@@ -56,6 +56,53 @@ pub fn optional(out: &mut [u8], at: usize, name: &[u8], n: OptionU64) -> usize {
     }
 }
 
+// Text with a value in the place of each `%`: at most ten, the first for the first.
+pub fn form(out: &mut [u8], at: usize, text: &[u8], values: [OptionU64; 10]) -> usize {
+    let mut n = at;
+    let mut k: usize = 0;
+    let mut i: usize = 0;
+    while i < text.len() {
+        let b = text[i];
+        n = placed(out, n, b, values, k);
+        k = next(b, k);
+        i += 1;
+    }
+    n
+}
+
+fn placed(out: &mut [u8], at: usize, b: u8, values: [OptionU64; 10], k: usize) -> usize {
+    if b != b'%' {
+        return byte(out, at, b);
+    }
+    if 9 < k {
+        return at;
+    }
+    let v = values[k];
+    optional(out, at, b"", v)
+}
+
+fn next(b: u8, k: usize) -> usize {
+    if b != b'%' {
+        return k;
+    }
+    if 9 < k {
+        return k;
+    }
+    k + 1
+}
+
+// A number, and a yes or no, as values of a form.
+pub fn some(n: u64) -> OptionU64 {
+    OptionU64::Some(n)
+}
+
+pub fn bit(yes: bool) -> OptionU64 {
+    if yes {
+        return OptionU64::Some(1);
+    }
+    OptionU64::Some(0)
+}
+
 // ---- bytes
 
 // Up to 32 bytes in full, more as their count and CRC-32.

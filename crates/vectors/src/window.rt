@@ -5,6 +5,7 @@ use super::text;
 use super::words::Words;
 use flowcontrol::FlowControl;
 use refusal::Answer;
+use refusal::OptionU64;
 
 // The window after a call, the length of its text (0: not understood), and whether the call created the window.
 pub struct Step {
@@ -82,12 +83,26 @@ fn asked(flow: FlowControl, what: u64, w: Words, out: &mut [u8]) -> usize
 
 // A window as a state shows it.
 pub fn state(out: &mut [u8], at: usize, flow: FlowControl) -> usize {
-    let a = text::named(out, at, b"consumed=", flow.consumed);
-    let b = text::named(out, a, b" limit=", flow.max_data);
-    let c = text::named(out, b, b" window=", flow.window);
-    let d = text::named(out, c, b" maximum=", flow.max_window);
     let last = flow.last_update;
-    text::optional(out, d, b" last=", last)
+    let none = OptionU64::None;
+    let numbers = [
+        text::some(flow.consumed),
+        text::some(flow.max_data),
+        text::some(flow.window),
+        text::some(flow.max_window),
+        last,
+        none,
+        none,
+        none,
+        none,
+        none,
+    ];
+    text::form(
+        out,
+        at,
+        b"consumed=% limit=% window=% maximum=% last=%",
+        numbers,
+    )
 }
 
 fn new(old: FlowControl, w: Words, out: &mut [u8]) -> Step

@@ -58,6 +58,35 @@ pub fn word_end(line: &[u8], from: usize) -> usize
     i
 }
 
+// What a line of `len` bytes is: one to be skipped, one that does not fit, a stored answer, or one of the script.
+pub const SKIPPED: u64 = 0;
+
+pub const CUT: u64 = 1;
+
+pub const STORED: u64 = 2;
+
+pub const ASKED: u64 = 3;
+
+pub fn kind(line: &[u8], len: usize) -> u64 {
+    if line.len() <= len {
+        return CUT;
+    }
+    if len == 0 {
+        return SKIPPED;
+    }
+    let sign = line[0];
+    if sign == b'#' {
+        return SKIPPED;
+    }
+    if sign == b'<' {
+        return STORED;
+    }
+    if sign == b'!' {
+        return STORED;
+    }
+    ASKED
+}
+
 // Does the line start a sequence?
 pub fn is_seq(line: &[u8]) -> bool {
     let end = word_end(line, 0);
