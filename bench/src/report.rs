@@ -85,8 +85,8 @@ const STYLE: &str = "text{font:13px sans-serif;fill:#222}.t{font-size:16px;font-
 .b0{fill:#6aa5ea}.b1{fill:#f0a35a}.b2{fill:#9aa0aa}}";
 
 /// Where the bars begin and how long the longest may be.
-const LEFT: f64 = 250.0;
-const WIDTH: f64 = 470.0;
+const LEFT: f64 = 262.0;
+const WIDTH: f64 = 460.0;
 
 fn told_of(work: &str) -> &'static str {
     match work {
@@ -100,67 +100,113 @@ fn told_of(work: &str) -> &'static str {
     }
 }
 
-/// The picture: bars of ours, quiche and the limit for each workload, on a scale where each line is ten times the one before. Times
-/// where there are any, else instructions.
+/// Which numbers the picture shows, and from which power of ten to which.
+struct Scale {
+    timed: bool,
+    least: f64,
+    most: f64,
+}
+
+impl Scale {
+    fn of(results: &[&Result]) -> Scale {
+        let timed = results.iter().any(|r| r.micros[0].is_some());
+        let all = results
+            .iter()
+            .flat_map(|r| if timed { r.micros } else { r.instructions })
+            .flatten();
+        let (least, most) = all.fold((f64::MAX, 1.0), |(least, most), n| (n.min(least), n.max(most)));
+        let least = least.log10().floor();
+        Scale {
+            timed,
+            least,
+            most: most.log10().ceil().max(least + 1.0),
+        }
+    }
+
+    fn numbers(&self, r: &Result) -> [Option<f64>; 3] {
+        if self.timed {
+            r.micros
+        } else {
+            r.instructions
+        }
+    }
+
+    fn at(&self, n: f64) -> f64 {
+        LEFT + WIDTH * (n.log10() - self.least) / (self.most - self.least)
+    }
+
+    fn told(&self, n: f64) -> String {
+        if self.timed {
+            time(Some(n))
+        } else {
+            count(Some(n))
+        }
+    }
+
+    fn lines(&self, bottom: f64) -> String {
+        let line = |power| {
+            let (at, n) = (self.at(10f64.powi(power)), 10f64.powi(power));
+            format!(
+                "<line class=\"g\" x1=\"{at:.1}\" x2=\"{at:.1}\" y1=\"62\" y2=\"{bottom}\"/>\
+                 <text class=\"n s\" x=\"{at:.1}\" y=\"54\" text-anchor=\"middle\">{}</text>\n",
+                if n < 1.0 { n.to_string() } else { count(Some(n)) }
+            )
+        };
+        (self.least as i32..=self.most as i32).map(line).collect()
+    }
+
+    fn bars(&self, r: &Result, top: f64) -> String {
+        let bar = |(i, n): (usize, f64)| {
+            let (y, end) = (top + 18.0 * i as f64, self.at(n).max(LEFT + 1.0));
+            format!(
+                "<rect class=\"b{i}\" x=\"{LEFT}\" y=\"{y}\" width=\"{:.1}\" height=\"14\"/>\
+                 <text class=\"n\" x=\"{:.1}\" y=\"{}\">{}</text>\n",
+                end - LEFT,
+                end + 5.0,
+                y + 11.5,
+                self.told(n)
+            )
+        };
+        let known = |(i, n): (usize, Option<f64>)| n.map(|n| (i, n));
+        self.numbers(r).into_iter().enumerate().filter_map(known).map(bar).collect()
+    }
+}
+
+fn legend() -> String {
+    let entry = |(i, at, name)| {
+        let text = at + 17;
+        format!(
+            "<rect class=\"b{i}\" x=\"{at}\" y=\"17\" width=\"12\" height=\"12\"/><text x=\"{text}\" y=\"28\">{name}</text>\n"
+        )
+    };
+    [(0, 500, "ours"), (1, 566, "quiche"), (2, 644, "limit: plain copies")]
+        .map(entry)
+        .concat()
+}
+
+/// The picture: bars of ours, quiche and the limit for each workload. Times where there are any, else instructions.
 pub fn picture(results: &[Result]) -> String {
-    let timed = results.iter().any(|r| r.micros[0].is_some());
-    let of = |r: &Result| if timed { r.micros } else { r.instructions };
     let rows: Vec<&Result> = results.iter().filter(|r| !PASSING.contains(&r.work.as_str())).collect();
-    let all: Vec<f64> = rows.iter().flat_map(|r| of(r)).flatten().collect();
-    let least = all.iter().copied().fold(f64::MAX, f64::min).log10().floor();
-    let most = all.iter().copied().fold(f64::MIN, f64::max).log10().ceil().max(least + 1.0);
-    let x = |n: f64| LEFT + WIDTH * (n.log10() - least) / (most - least);
-    let height = 84.0 + 66.0 * rows.len() as f64;
+    let scale = Scale::of(&rows);
+    let height = 106.0 + 66.0 * rows.len() as f64;
+    let heading = if scale.timed {
+        "Microseconds for a run: median, x86-64"
+    } else {
+        "Instructions for a run: x86-64"
+    };
     let mut svg = format!(
         "<svg xmlns=\"http://www.w3.org/2000/svg\" viewBox=\"0 0 820 {height}\" width=\"820\" height=\"{height}\" role=\"img\">\n\
-         <title>Valemkhor, quiche and plain copies: {unit} for each workload</title>\n<style>{STYLE}</style>\n\
-         <rect class=\"bg\" width=\"820\" height=\"{height}\"/>\n<text class=\"t\" x=\"20\" y=\"28\">{heading}</text>\n",
-        unit = if timed { "microseconds" } else { "instructions" },
-        heading = if timed {
-            "Microseconds for a run (median; fewer is better)"
-        } else {
-            "Instructions for a run (x86-64; fewer is better)"
-        }
+         <title>{heading}: Valemkhor, quiche and plain copies</title>\n<style>{STYLE}</style>\n\
+         <rect class=\"bg\" width=\"820\" height=\"{height}\"/>\n<text class=\"t\" x=\"20\" y=\"28\">{heading}</text>\n{}{}",
+        legend(),
+        scale.lines(height - 38.0)
     );
-    for (i, name) in ["ours", "quiche", "limit: plain copies"].into_iter().enumerate() {
-        let at = 450.0 + [0.0, 70.0, 155.0][i];
-        svg += &format!("<rect class=\"b{i}\" x=\"{at}\" y=\"17\" width=\"12\" height=\"12\"/>");
-        svg += &format!("<text x=\"{}\" y=\"28\">{name}</text>\n", at + 17.0);
-    }
-    for power in least as i32..=most as i32 {
-        let at = x(10f64.powi(power));
-        svg += &format!(
-            "<line class=\"g\" x1=\"{at:.1}\" x2=\"{at:.1}\" y1=\"62\" y2=\"{}\"/>",
-            height - 14.0
-        );
-        let told = if power < 0 {
-            format!("{}", 10f64.powi(power))
-        } else {
-            count(Some(10f64.powi(power)))
-        };
-        svg += &format!("<text class=\"n s\" x=\"{at:.1}\" y=\"54\" text-anchor=\"middle\">{told}</text>\n");
-    }
     for (row, r) in rows.into_iter().enumerate() {
         let top = 68.0 + 66.0 * row as f64;
-        svg += &format!("<text x=\"20\" y=\"{}\">{}</text>", top + 23.0, r.work);
-        svg += &format!(
-            "<text class=\"s\" x=\"56\" y=\"{}\">{}</text>\n",
-            top + 23.0,
-            told_of(&r.work)
-        );
-        for (i, n) in of(r).into_iter().enumerate() {
-            let (y, Some(n)) = (top + 18.0 * i as f64, n) else { continue };
-            let told = if timed { time(Some(n)) } else { count(Some(n)) };
-            svg += &format!(
-                "<rect class=\"b{i}\" x=\"{LEFT}\" y=\"{y}\" width=\"{:.1}\" height=\"14\"/>",
-                (x(n) - LEFT).max(1.0)
-            );
-            svg += &format!(
-                "<text class=\"n\" x=\"{:.1}\" y=\"{}\">{told}</text>\n",
-                x(n).max(LEFT + 1.0) + 5.0,
-                y + 11.5
-            );
-        }
+        let (work, told, y) = (&r.work, told_of(&r.work), top + 23.0);
+        svg += &format!("<text x=\"20\" y=\"{y}\">{work}</text><text class=\"s\" x=\"56\" y=\"{y}\">{told}</text>\n");
+        svg += &scale.bars(r, top);
     }
-    svg + "</svg>\n"
+    let note = "Fewer is better. The scale is logarithmic: from line to line ten times as many.";
+    svg + &format!("<text class=\"n s\" x=\"20\" y=\"{}\">{note}</text>\n</svg>\n", height - 14.0)
 }
