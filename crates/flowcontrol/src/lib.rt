@@ -5,6 +5,8 @@
 //        |------ window -----|        the next limit: consumed + window
 //
 // The record goes into a call and comes back changed. Every call answers; a refusal changes nothing. Time is in microseconds.
+pub mod lent;
+
 ghost use mathlib.Core.Path.{_≡_};
 ghost use Rattle.flowcontrol.specs.State.{Good};
 ghost use Rattle.flowcontrol.specs.Rules.{badNumbers, created, consumedMore, due, next, committed, autotuned, withWindow, atLeast};
