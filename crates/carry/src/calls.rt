@@ -2,6 +2,7 @@
 // promise (their laws in proofs/Kept.antt), said here once for each call.
 ghost use Rattle.send_buf.specs.State.{Good as GoodSend};
 ghost use Rattle.recv_buf.specs.State.{Good as GoodRecv};
+use crate::credit;
 use recv_buf::RecvBuf;
 use send_buf::SendBuf;
 
@@ -72,18 +73,11 @@ pub fn take(buf: RecvBuf, arena: &[u8], out: &mut [u8]) -> recv_buf::EmitOutcome
     buf.emit(arena, out)
 }
 
-// The window grown where commits follow one another fast, and the next limit committed. `now` and `rtt` count rounds.
+// The stream's window with a new limit: the buffer's record is taken out, renewed and handed back. `now` and `rtt` count rounds.
 pub fn commit(buf: RecvBuf, now: u64, rtt: u64) -> RecvBuf
     requires { ⌜ GoodRecv buf ⌝ }
     ensures { λ r. ⌜ GoodRecv r ⌝ }
 {
-    let tuned = tune(buf, now, rtt);
-    tuned.update_max_data(now)
-}
-
-fn tune(buf: RecvBuf, now: u64, rtt: u64) -> RecvBuf
-    requires { ⌜ GoodRecv buf ⌝ }
-    ensures { λ r. ⌜ GoodRecv r ⌝ }
-{
-    buf.autotune_window(now, rtt)
+    let flow = credit::granted(buf.flow_control(), now, rtt);
+    buf.set_flow_control(flow)
 }

@@ -159,6 +159,12 @@ impl Tally {
     }
 }
 
+// What the connection's window came to.
+pub fn credit(consumed: u64, limit: u64) {
+    line(b"carry: connection consumed ", consumed);
+    line(b"carry: connection limit ", limit);
+}
+
 // The sum, or the largest number.
 fn more(n: u64, k: u64) -> u64 {
     if n < u64::MAX - k {
