@@ -8,6 +8,7 @@ ghost use mathlib.Core.Path.{_≡_};
 ghost use Rattle.flowcontrol.specs.State.{Good};
 ghost use Rattle.flowcontrol.specs.Rules.{consumedMore, committed, autotuned};
 use flowcontrol::FlowControl;
+use flowcontrol::Outcome;
 use flowcontrol::lent;
 
 // The connection's window at the start, with the numbers of the stream's.
@@ -19,13 +20,13 @@ pub fn connection(limit: u64, maximum: u64) -> FlowControl
 }
 
 // Counts `n` bytes that were handed out.
-pub fn spent(flow: FlowControl, n: u64) -> FlowControl
+pub fn spent(flow: FlowControl, n: u64) -> Outcome
     requires { ⌜ Good flow ⌝ }
-    ensures { λ r. ⌜ (r ≡ consumedMore flow n .flow) × Good r ⌝ }
+    ensures { λ r. ⌜ (r ≡ consumedMore flow n) × Good (r .flow) ⌝ }
 {
     let mut w = flow;
-    lent::consume(&mut w, n);
-    w
+    let answer = lent::consume(&mut w, n);
+    Outcome { answer, flow: w }
 }
 
 // The window with a new limit. `now` and `rtt` count rounds.

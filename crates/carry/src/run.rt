@@ -494,8 +494,6 @@ impl Run {
         let EmitAnswer::Emitted(n, _) = answer else {
             return next.refused_emit(answer);
         };
-        let conn = credit::spent(self.conn, n);
-        next.conn = conn;
         let k = n as usize;
         if out.len() < k {
             return next;
@@ -507,14 +505,30 @@ impl Run {
         requires { ⌜ Sound self ⌝ }
         ensures { λ r. ⌜ Sound r ⌝ }
     {
-        let mut next = self;
-        let t = self.tally.gave(bytes);
+        let mut next = self.spent(bytes.len() as u64);
+        let t = next.tally.gave(bytes);
         next.tally = t;
         next.broken = !io::write_all(STDOUT_FILENO, bytes);
         if next.broken {
             say(b"carry: standard output cannot be written\n");
         }
         next
+    }
+
+    // Counts what was handed out in the connection's window, as the receive buffer has in the stream's.
+    fn spent(self, n: u64) -> Run
+        requires { ⌜ Sound self ⌝ }
+        ensures { λ r. ⌜ Sound r ⌝ }
+    {
+        let out = credit::spent(self.conn, n);
+        let answer = out.answer;
+        let conn = out.flow;
+        let mut next = self;
+        next.conn = conn;
+        let Answer::Refused(why) = answer else {
+            return next;
+        };
+        next.refused(why)
     }
 
     // Raises the limit where it is due: both windows are renewed, and the sender is granted the lesser of the two limits.
