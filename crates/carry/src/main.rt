@@ -54,10 +54,9 @@ fn summary(ended: Run) {
     let recv = ended.recv;
     let conn = ended.conn;
     let tally = ended.tally;
-    tally::credit(conn.consumed(), conn.max_data());
     let sender = send.fin_off;
     let receiver = recv.fin_off;
-    tally.summary(sender, receiver, ended.is_done());
+    tally.summary(sender, receiver, conn, ended.is_done());
 }
 
 fn begin(set: Settings, sa: &[u8], ra: &[u8]) -> Run
