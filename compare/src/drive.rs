@@ -5,9 +5,12 @@
 //! after it, must be the same text. First every short sequence over small alphabets, then random sequences around every
 //! boundary for the time given. A difference in no row is shrunk, printed, and the exit status is 1.
 
+mod owed;
+
 use std::collections::BTreeMap;
 use std::io::BufRead;
 use std::io::BufReader;
+use std::io::BufWriter;
 use std::io::Write;
 use std::process::Child;
 use std::process::ChildStdin;
@@ -20,10 +23,11 @@ use std::time::Instant;
 const M: u64 = (1 << 62) - 1;
 const TOP: u64 = u64::MAX;
 
-/// One of the two programs, fed a line at a time.
+/// One of the two programs. It may be told several lines before it is heard; one that has ended answers nothing.
 struct Side {
+    path: String,
     _child: Child,
-    to: ChildStdin,
+    to: BufWriter<ChildStdin>,
     from: BufReader<ChildStdout>,
 }
 
@@ -34,16 +38,37 @@ impl Side {
             .stdout(Stdio::piped())
             .spawn()
             .unwrap_or_else(|e| panic!("{path}: {e}"));
-        let (to, from) = (child.stdin.take().unwrap(), BufReader::new(child.stdout.take().unwrap()));
-        Side { _child: child, to, from }
+        let (to, from) = (child.stdin.take().unwrap(), child.stdout.take().unwrap());
+        Side {
+            path: path.into(),
+            _child: child,
+            to: BufWriter::new(to),
+            from: BufReader::new(from),
+        }
+    }
+
+    fn tell(&mut self, line: &str) {
+        let _ = writeln!(self.to, "{line}");
+    }
+
+    fn hear(&mut self) -> String {
+        let _ = self.to.flush();
+        let mut said = String::new();
+        let _ = self.from.read_line(&mut said);
+        said.trim_end().to_string()
     }
 
     fn ask(&mut self, line: &str) -> String {
-        self.to.write_all(line.as_bytes()).unwrap();
-        self.to.write_all(b"\n").unwrap();
-        let mut said = String::new();
-        self.from.read_line(&mut said).unwrap();
-        said.trim_end().to_string()
+        self.tell(line);
+        self.hear()
+    }
+
+    /// A new sequence, in a new process where the old one has ended.
+    fn begin(&mut self) {
+        if self.ask("seq x").is_empty() {
+            *self = Side::start(&self.path);
+            self.ask("seq x");
+        }
     }
 }
 
@@ -156,9 +181,22 @@ fn added(said: &str) -> bool {
     ["no 1", "no 5", "no 6", "no 7", "no 10"].contains(&said)
 }
 
+/// What the port said, and who says otherwise what.
 struct Difference {
     port: String,
-    oracle: String,
+    other: (&'static str, String),
+}
+
+/// A sequence under way.
+#[derive(Default)]
+struct Running {
+    done: Vec<String>,
+    /// The port's state, and what its answers do not show.
+    before: String,
+    form: Form,
+    arena: u64,
+    /// The calls that quiche was told, by index, with the port's lines for them.
+    asked: Vec<(usize, String)>,
 }
 
 struct Compare {
@@ -171,132 +209,170 @@ struct Compare {
 }
 
 impl Compare {
-    fn begin(&mut self) {
-        self.port.ask("seq x");
-        self.oracle.ask("seq x");
+    fn begin(&mut self) -> Running {
+        self.port.begin();
+        self.oracle.begin();
+        Running {
+            before: "-".into(),
+            ..Running::default()
+        }
     }
 
-    /// One call to both sides. `None`: the sequence can go on; `Some(None)`: it ends here; else a difference.
-    fn call(&mut self, line: &str, before: &mut String, form: &mut Form) -> Option<Option<Difference>> {
-        let port = self.port.ask(line);
-        let (said, after) = port
-            .split_once(" | ")
-            .map(|(a, b)| (a.to_string(), b.to_string()))
-            .unwrap_or_default();
-        let name = line.split(' ').next().unwrap();
-        *self.calls.entry(name.into()).or_default() += 1;
-        if let Some((row, goes_on)) = row(line, before, &said, &after, form) {
+    /// One call, and the port's line for it; quiche is told the call if it is to answer it. `None`: the sequence can go on;
+    /// `Some(None)`: it ends here; else a difference.
+    fn call(&mut self, run: &mut Running, line: String, port: String) -> Option<Option<Difference>> {
+        let name = line.split(' ').next().unwrap().to_string();
+        let (said, after) = port.split_once(" | ").unwrap_or_default();
+        let (said, after) = (said.to_string(), after.to_string());
+        run.done.push(line.clone());
+        *self.calls.entry(name.clone()).or_default() += 1;
+        if name == "s.new" || name == "r.new" {
+            run.arena = line.rsplit(' ').next().unwrap().parse().unwrap_or(0);
+        }
+        let owed = owed::owed(&line, &run.before, run.arena);
+        let number = said
+            .strip_prefix("no ")
+            .map_or(0, |s| s.split(' ').next().unwrap().parse().unwrap_or(0));
+        let differs = |port, who, what| {
+            Some(Some(Difference {
+                port,
+                other: (who, what),
+            }))
+        };
+        if said.is_empty() {
+            return differs("no answer: the program has ended".into(), "document 01", "an answer".into());
+        }
+        if number != owed {
+            let what = if owed == 0 {
+                "no refusal".into()
+            } else {
+                format!("no {owed}")
+            };
+            return differs(port, "document 01", what);
+        }
+        if let Some((row, goes_on)) = row(&line, &run.before, &said, &after, &run.form) {
             *self.rows.entry(row).or_default() += 1;
-            *before = after;
+            run.before = after;
             return if goes_on { None } else { Some(None) };
         }
         if added(&said) {
             *self.refused.entry(format!("{name} {said}")).or_default() += 1;
-            return if after == *before || name.ends_with("new") {
+            return if after == run.before {
                 None
             } else {
-                Some(Some(Difference {
-                    port,
-                    oracle: format!("(a refusal, after which the state is to be {before})"),
-                }))
+                differs(port, "document 01", format!("{said} | {}", run.before))
             };
         }
-        let oracle = self.oracle.ask(line);
-        self.compared += 1;
-        if port != oracle {
-            return Some(Some(Difference { port, oracle }));
-        }
+        self.oracle.tell(&line);
+        run.asked.push((run.done.len(), port));
         if name == "rs.new" {
-            *form = Form {
+            run.form = Form {
                 tree: false,
                 capacity: line[7..].parse().unwrap_or(0),
             };
         } else if name.starts_with("rs.") {
             let held = ranges(&after).len();
-            form.tree = if form.tree { held > 2 } else { held == 4 };
+            run.form.tree = if run.form.tree { held > 2 } else { held == 4 };
         }
-        *before = after;
+        run.before = after;
         None
     }
 
-    /// A whole sequence, given call by call; the calls up to a difference, and the difference.
+    /// Hears quiche's answers to a sequence that has ended; the calls up to the first difference, and the difference.
+    fn settle(&mut self, mut run: Running, end: Option<Difference>) -> Option<(Vec<String>, Difference)> {
+        let mut found = end.map(|difference| (run.done.len(), difference));
+        let answers: Vec<String> = run.asked.iter().map(|_| self.oracle.hear()).collect();
+        self.compared += answers.len() as u64;
+        if let Some(((at, port), oracle)) = run.asked.into_iter().zip(answers).find(|((_, port), oracle)| port != oracle) {
+            let other = ("quiche", oracle);
+            found = Some((at, Difference { port, other }));
+        }
+        let (at, difference) = found?;
+        run.done.truncate(at);
+        Some((run.done, difference))
+    }
+
+    /// A whole sequence, each call by the state that the one before left.
     fn sequence(&mut self, mut next: impl FnMut(&str) -> Option<String>) -> Option<(Vec<String>, Difference)> {
-        self.begin();
-        let (mut done, mut before, mut form) = (Vec::new(), "-".to_string(), Form::default());
-        while let Some(line) = next(&before) {
-            done.push(line.clone());
-            match self.call(&line, &mut before, &mut form) {
-                None => {}
-                Some(None) => return None,
-                Some(Some(difference)) => return Some((done, difference)),
+        let mut run = self.begin();
+        while let Some(line) = next(&run.before) {
+            let port = self.port.ask(&line);
+            if let Some(end) = self.call(&mut run, line, port) {
+                return self.settle(run, end);
             }
         }
-        None
+        self.settle(run, None)
     }
 
+    /// A sequence that is known beforehand: the port is told all of it at once.
     fn replay(&mut self, lines: &[String]) -> Option<(Vec<String>, Difference)> {
-        let mut at = 0;
-        self.sequence(|_| {
-            at += 1;
-            lines.get(at - 1).cloned()
-        })
+        let mut run = self.begin();
+        lines.iter().for_each(|line| self.port.tell(line));
+        let answers: Vec<String> = lines.iter().map(|_| self.port.hear()).collect();
+        for (line, port) in lines.iter().zip(answers) {
+            if let Some(end) = self.call(&mut run, line.clone(), port) {
+                return self.settle(run, end);
+            }
+        }
+        self.settle(run, None)
     }
 
-    /// The smallest sequence with a difference that leaving out calls and lessening numbers finds.
-    fn shrink(&mut self, mut lines: Vec<String>) -> (Vec<String>, Difference) {
+    /// The smallest sequence with a difference that leaving out calls and lessening numbers finds. The creation stays.
+    fn shrink(&mut self, lines: Vec<String>) -> (Vec<String>, Difference) {
+        let mut best = self.replay(&lines).expect("the difference is still there");
         loop {
-            let mut less = None;
-            for smaller in smaller(&lines) {
-                if let Some((found, _)) = self.replay(&smaller) {
-                    less = Some(found);
-                    break;
+            let was = best.0.clone();
+            let mut size = best.0.len() / 2;
+            while size > 0 {
+                let mut at = 1;
+                while at < best.0.len() {
+                    let behind = best.0.len().min(at + size);
+                    match self.replay(&[&best.0[..at], &best.0[behind..]].concat()) {
+                        Some(less) => best = less,
+                        None => at += size,
+                    }
+                }
+                size /= 2;
+            }
+            let mut i = 0;
+            while i < best.0.len() {
+                match lesser(&best.0, i).iter().find_map(|less| self.replay(less)) {
+                    Some(less) => best = less,
+                    None => i += 1,
                 }
             }
-            match less {
-                Some(found) => lines = found,
-                None => break,
+            if best.0 == was {
+                return best;
             }
         }
-        let (lines, difference) = self.replay(&lines).expect("the difference is still there");
-        (lines, difference)
     }
 }
 
-/// The sequences one step smaller: a call left out, or a number made less.
-fn smaller(lines: &[String]) -> Vec<Vec<String>> {
+/// The sequences in which one word of the call at index i is less: a number or fewer bytes, the least first.
+fn lesser(lines: &[String], i: usize) -> Vec<Vec<String>> {
+    let words: Vec<&str> = lines[i].split(' ').collect();
+    let steps = |n: u64| (0..64).map(move |k| n - (n >> k)).filter(move |m| *m < n);
     let mut all = Vec::new();
-    for i in (1..lines.len()).rev() {
-        let mut less = lines.to_vec();
-        less.remove(i);
-        all.push(less);
-    }
-    for i in 0..lines.len() {
-        let words: Vec<&str> = lines[i].split(' ').collect();
-        for (j, word) in words.iter().enumerate().skip(1) {
-            let mut tries: Vec<String> = Vec::new();
-            if let Ok(n) = word.parse::<u64>() {
-                tries.extend(
-                    [0, 1, n / 2, n.saturating_sub(1)]
-                        .iter()
-                        .filter(|m| **m < n)
-                        .map(|m| m.to_string()),
-                );
-            } else if let Some((n, t)) = word.strip_prefix('p').and_then(|w| w.split_once(':')) {
-                let n: u64 = n.parse().unwrap_or(0);
-                tries.extend(
-                    [0, 1, n / 2, n.saturating_sub(1)]
-                        .iter()
-                        .filter(|m| **m < n)
-                        .map(|m| format!("p{m}:{t}")),
-                );
-            }
-            for less in tries {
-                let mut words: Vec<String> = words.iter().map(|w| w.to_string()).collect();
-                words[j] = less;
-                let mut copy = lines.to_vec();
-                copy[i] = words.join(" ");
-                all.push(copy);
-            }
+    for (j, word) in words.iter().enumerate().skip(1) {
+        let tries: Vec<String> = if let Some((n, t)) = word.strip_prefix('p').and_then(|w| w.split_once(':')) {
+            let same = (t != "0").then(|| format!("p{n}:0"));
+            steps(n.parse().unwrap_or(0))
+                .map(|m| format!("p{m}:{t}"))
+                .chain(same)
+                .collect()
+        } else if let Some(hex) = word.strip_prefix('x') {
+            steps(hex.len() as u64 / 2)
+                .map(|m| format!("x{}", &hex[..2 * m as usize]))
+                .collect()
+        } else {
+            steps(word.parse().unwrap_or(0)).map(|m| m.to_string()).collect()
+        };
+        for less in &tries {
+            let mut words = words.clone();
+            words[j] = less;
+            let mut copy = lines.to_vec();
+            copy[i] = words.join(" ");
+            all.push(copy);
         }
     }
     all
@@ -599,13 +675,27 @@ fn report(compare: &Compare) {
     println!("answers and states compared: {}", compare.compared);
 }
 
+/// Shrinks the sequence, prints it with both sides' words that differ, and ends.
 fn fail(compare: &mut Compare, lines: Vec<String>) -> ! {
-    let (lines, difference) = compare.shrink(lines);
-    println!("A DIFFERENCE in no row of docs/DIFFERENCES.md:");
+    let (found, compared) = (lines.len(), compare.compared);
+    let (
+        lines,
+        Difference {
+            port,
+            other: (who, what),
+        },
+    ) = compare.shrink(lines);
+    println!(
+        "A DIFFERENCE in no row of docs/DIFFERENCES.md, after {compared} compared, at call {found} of a sequence. The smallest:"
+    );
     for line in &lines {
         println!("    {line}");
     }
-    println!("  here:   {}\n  quiche: {}", difference.port, difference.oracle);
+    println!("  here: {port}\n  {who}: {what}");
+    let words: Vec<_> = port.split(' ').zip(what.split(' ')).filter(|(a, b)| a != b).collect();
+    if port.split(' ').count() == what.split(' ').count() {
+        words.iter().for_each(|(a, b)| println!("  differs: {a} here, {b} there"));
+    }
     report(compare);
     std::process::exit(1)
 }
@@ -614,16 +704,12 @@ fn exhaustive(compare: &mut Compare) {
     for (first, depth, letters) in alphabets() {
         let mut at = vec![0usize; depth];
         loop {
-            let mut i = 0;
-            let found = compare.sequence(|_| {
-                i += 1;
-                match i {
-                    1 => Some(first.to_string()),
-                    i if i - 2 < depth => Some(letters[at[i - 2]].to_string()),
-                    _ => None,
-                }
-            });
-            if let Some((lines, _)) = found {
+            let lines: Vec<String> = [first]
+                .into_iter()
+                .chain(at.iter().map(|&j| letters[j]))
+                .map(str::to_string)
+                .collect();
+            if let Some((lines, _)) = compare.replay(&lines) {
                 fail(compare, lines);
             }
             let Some(j) = (0..depth).rev().find(|&j| at[j] + 1 < letters.len()) else {

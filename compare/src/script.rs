@@ -84,9 +84,13 @@ pub trait Side {
 /// Reads a script on standard input and writes a line for each call.
 pub fn serve(side: &mut impl Side) {
     let mut out = std::io::BufWriter::new(std::io::stdout().lock());
-    for line in std::io::stdin().lock().lines() {
-        let line = line.expect("a line of text");
-        let line = line.trim();
+    let mut input = std::io::BufReader::new(std::io::stdin());
+    loop {
+        let mut text = String::new();
+        if input.read_line(&mut text).expect("a line of text") == 0 {
+            return;
+        }
+        let line = text.trim();
         if line.is_empty() || line.starts_with('#') {
             continue;
         }
@@ -98,7 +102,10 @@ pub fn serve(side: &mut impl Side) {
             let said = side.call(&call).unwrap_or("-".into());
             writeln!(out, "{said} | {}", side.state(call.object)).expect("standard output");
         }
-        out.flush().expect("standard output");
+        // Who waits for an answer has sent nothing more.
+        if input.buffer().is_empty() {
+            out.flush().expect("standard output");
+        }
     }
 }
 
