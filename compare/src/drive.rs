@@ -400,7 +400,7 @@ fn alphabets() -> Vec<(&'static str, usize, Vec<&'static str>)> {
             ],
         ),
         (
-            "fc.new 16 16 24",
+            "fc.new 16 17 24",
             4,
             vec![
                 "fc.add_consumed 0",
@@ -438,7 +438,7 @@ fn alphabets() -> Vec<(&'static str, usize, Vec<&'static str>)> {
             ],
         ),
         (
-            "rs.new 6",
+            "rs.new 4",
             5,
             vec![
                 "rs.insert 0 0",
@@ -511,18 +511,27 @@ fn bytes(dice: &mut Dice, n: u64) -> String {
     }
 }
 
+/// Mostly 0, now and then a number that no stream reaches.
+fn odd(dice: &mut Dice) -> u64 {
+    if dice.one_in(8) {
+        dice.pick(&[M, TOP])
+    } else {
+        0
+    }
+}
+
 /// The next random call of an object, by the state that it is in.
 fn call(dice: &mut Dice, object: &str, state: &str) -> String {
     let at = |name: &str| field(state, name).unwrap_or(0);
     let mark = |dice: &mut Dice| if dice.one_in(7) { "1" } else { "0" };
     match object {
         "rb" => match dice.below(6) {
-            0 | 1 => format!("rb.consume {}", dice.near(&[0, 1, 40])),
-            2 | 3 => format!("rb.split {} {}", dice.near(&[0, 20, 40]), dice.pick(&["l", "r"])),
+            0 | 1 => format!("rb.consume {}", dice.near(&[0, 0, 1, 20, 40, TOP])),
+            2 | 3 => format!("rb.split {} {}", dice.near(&[0, 20, 40, TOP]), dice.pick(&["l", "r"])),
             _ => dice.pick(&["rb.off", "rb.max_off", "rb.len", "rb.is_empty"]).into(),
         },
         "fc" => match dice.below(9) {
-            0 | 1 => format!("fc.add_consumed {}", dice.near(&[0, at("window") / 2, at("limit"), M])),
+            0 | 1 => format!("fc.add_consumed {}", dice.near(&[0, at("window") / 2, at("limit"), M, TOP])),
             2 => format!("fc.commit {}", dice.near(&[0, 1000, TOP])),
             3 | 4 => {
                 let rtt = dice.near(&[0, 10, 1 << 63, TOP]);
@@ -531,18 +540,22 @@ fn call(dice: &mut Dice, object: &str, state: &str) -> String {
                     dice.near(&[0, at("last").saturating_add(rtt.saturating_mul(2)), at("last")])
                 )
             }
-            5 => format!("fc.lower_bound {}", dice.near(&[0, at("window"), at("maximum"), M])),
+            5 => format!("fc.lower_bound {}", dice.near(&[0, at("window"), at("maximum"), M, TOP])),
             _ => dice.pick(&["fc.should_update", "fc.next", "fc.window", "fc.max_data"]).into(),
         },
         "rs" => {
             let far = if dice.one_in(20) { TOP } else { 0 };
             let start = dice.near(&[far, 0, 20, 60, 150]);
             match dice.below(9) {
+                0 if dice.one_in(9) => format!("rs.insert {start} {}", start.saturating_sub(1)),
                 0..=3 => format!("rs.insert {start} {}", start.saturating_add(dice.pick(&[0, 0, 1, 2, 9, 40]))),
                 4 => format!("rs.push_item {start}"),
                 5 => format!("rs.remove_until {}", dice.near(&[far, 0, 5, 30, 150])),
                 6 => format!("rs.contains {start}"),
-                _ => dice.pick(&["rs.len", "rs.last", "rs.iter", "rs.eq 0 20"]).into(),
+                _ => {
+                    let (s, e) = ranges(state).pop().unwrap_or((start, TOP));
+                    dice.pick(&["rs.len".into(), "rs.last".into(), "rs.iter".into(), format!("rs.eq {s} {e}")])
+                }
             }
         }
         "s" => match dice.below(20) {
@@ -556,8 +569,9 @@ fn call(dice: &mut Dice, object: &str, state: &str) -> String {
             }
             5..=9 => format!("s.emit {}", dice.pick(&[0, 1, 2, 3, 7, 20, 1200, 5000, 70000])),
             10..=15 => {
-                let off = dice.near(&[0, 0, at("emitted") / 2, at("emitted")]);
-                let len = dice.near(&[0, 1, at("emitted").saturating_sub(off), at("emitted") / 3]);
+                let (far, long) = (odd(dice), odd(dice));
+                let off = dice.near(&[far, 0, at("emitted") / 2, at("emitted")]);
+                let len = dice.near(&[long, 1, at("emitted").saturating_sub(off), at("emitted") / 3]);
                 format!(
                     "s.{} {off} {len}",
                     dice.pick(&["ack", "ack_and_drop", "ack_and_drop", "retransmit", "retransmit"])
@@ -565,15 +579,19 @@ fn call(dice: &mut Dice, object: &str, state: &str) -> String {
             }
             16 => format!(
                 "s.update_max_data {}",
-                dice.near(&[at("limit"), at("limit").saturating_add(5000), M])
+                dice.near(&[at("limit"), at("limit").saturating_add(5000), M, TOP])
             ),
-            17 if dice.one_in(6) => dice.pick(&["s.reset", "s.stop 7", "s.shutdown"]).into(),
+            17 if dice.one_in(6) => dice
+                .pick(&["s.reset", "s.stop 0", "s.stop 18446744073709551615", "s.shutdown"])
+                .into(),
             18 => dice
                 .pick(&[
                     "s.update_blocked_at -",
-                    "s.update_blocked_at 5",
-                    "s.ack 18446744073709551615 1",
+                    "s.update_blocked_at 18446744073709551615",
+                    "s.write x 1",
                     "s.write x 1 @7",
+                    "s.write x01 0 @0",
+                    "s.emit 3 @7",
                 ])
                 .into(),
             _ => "s.get".into(),
@@ -587,23 +605,30 @@ fn call(dice: &mut Dice, object: &str, state: &str) -> String {
                 };
                 let ahead = at("off") + dice.below(30);
                 let off = dice.near(&[at("off"), at("len"), ahead, at("limit"), at("len") + 50]);
+                let off = if dice.one_in(60) { dice.near(&[M, TOP]) } else { off };
                 format!("r.write {off} {} {}", bytes(dice, n), mark(dice))
             }
             9..=12 => format!("r.emit {}", dice.pick(&[0, 1, 2, 3, 9, 50, 70000])),
-            13 => format!("r.discard {}", dice.pick(&[0, 1, 2, 30, TOP])),
-            14 => format!("r.commit {}", dice.below(1000)),
-            15 => format!("r.autotune {} {}", dice.below(1000), dice.pick(&[0, 1, 100, TOP])),
+            13 => format!("r.discard {}", dice.pick(&[0, 1, 2, 30, M, TOP])),
+            14 => format!("r.commit {}", dice.near(&[0, 1000, TOP])),
+            15 => {
+                let rtt = dice.pick(&[0, 1, 100, TOP]);
+                let due = at("last").saturating_add(rtt.saturating_mul(2));
+                format!("r.autotune {} {rtt}", dice.near(&[0, 1000, at("last"), due]))
+            }
             16 => format!("r.readable_len {}", dice.pick(&[0, 1, 5, TOP])),
-            17 if dice.one_in(5) => format!("r.reset 7 {}", dice.near(&[at("len"), at("limit")])),
+            17 if dice.one_in(5) => {
+                let far = odd(dice);
+                format!(
+                    "r.reset {} {}",
+                    dice.pick(&[0, 7, TOP]),
+                    dice.near(&[at("len"), at("len"), at("limit"), far])
+                )
+            }
             18 if dice.one_in(8) => "r.shutdown".into(),
-            18 => dice
-                .pick(&[
-                    "r.fc.add_consumed 3",
-                    "r.fc.lower_bound 90",
-                    "r.write 18446744073709551615 x01 0",
-                    "r.emit 3 @9",
-                ])
-                .into(),
+            18 if dice.one_in(3) => format!("r.fc.lower_bound {}", dice.near(&[90, at("maximum"), M, TOP])),
+            18 if dice.one_in(9) => format!("r.fc.add_consumed {}", dice.near(&[3, M - at("consumed").min(M)])),
+            18 => dice.pick(&["r.emit 3 @9", "r.write 0 x01 0 @9", "r.write 0 x 1 @0"]).into(),
             _ => "r.get".into(),
         },
     }
@@ -612,49 +637,71 @@ fn call(dice: &mut Dice, object: &str, state: &str) -> String {
 /// The next call of a sequence that fills the tables of 64: many short chunks, many separate ranges.
 fn crowding(dice: &mut Dice, object: &str, state: &str) -> String {
     let at = |name: &str| field(state, name).unwrap_or(0);
+    let full = state.matches('~').count() == 64 && !dice.one_in(4);
     match (object, dice.below(10)) {
-        ("s", 0) => format!("s.write {} 0", bytes(dice, 200)),
-        ("s", 1..=4) => format!("s.write {} 0", bytes(dice, 1)),
+        ("s", 0) => {
+            let n = if dice.one_in(4) { dice.near(&[4096, 8192]) } else { 200 };
+            format!("s.write {} 0", bytes(dice, n))
+        }
+        ("s", 1..=4) if !full => format!("s.write {} 0", bytes(dice, 1)),
         ("s", 5) => format!("s.emit {}", dice.pick(&[1, 2, 200])),
-        ("s", 6..=8) => format!(
+        ("s", 1..=8) => format!(
             "s.{} {} 1",
             dice.pick(&["ack", "ack", "ack_and_drop", "retransmit"]),
             2 * dice.below(at("emitted") / 2 + 1)
         ),
         ("r", 0..=7) => format!("r.write {} {} 0", at("off") + 1 + 2 * dice.below(70), bytes(dice, 1)),
-        ("r", 8) => format!(
-            "r.write {} {} {}",
-            at("off") + dice.below(140),
-            bytes(dice, 30),
-            dice.pick(&["0", "0", "1"])
-        ),
+        ("r", 8) if dice.one_in(3) => format!("r.write {} x 1", at("len") + dice.below(3)),
+        ("r", 8) => {
+            let (n, ahead) = (dice.pick(&[1, 2, 30]), dice.below(140));
+            let off = dice.pick(&[at("off") + ahead, at("fin").saturating_sub(n)]);
+            format!("r.write {off} {} {}", bytes(dice, n), dice.pick(&["0", "0", "1"]))
+        }
         ("rs", 0..=7) => {
-            let start = 3 * dice.below(80);
+            let start = 3 * dice.below(200);
             format!("rs.insert {start} {}", start + dice.below(2))
         }
         _ => call(dice, object, state),
     }
 }
 
+/// The next call of a sequence in which the stream moves on, so that the arena goes round: bytes are written, sent and acked, or
+/// come and are handed out.
+fn flowing(dice: &mut Dice, object: &str, state: &str) -> String {
+    let at = |name: &str| field(state, name).unwrap_or(0);
+    let n = dice.pick(&[1, 2, 3, 7, 30, 100, 1200, 5000, 30000]);
+    match (object, dice.below(9)) {
+        ("s", 0..=2) => format!("s.write {} 0", bytes(dice, n)),
+        ("s", 3 | 4) => format!("s.emit {n}"),
+        ("s", 5 | 6) => format!("s.ack_and_drop 0 {}", at("emitted").saturating_sub(dice.pick(&[0, 0, 1, 9]))),
+        ("s", 7) => format!("s.update_max_data {}", at("limit").saturating_add(n)),
+        ("r", 0..=3) => format!("r.write {} {} 0", dice.near(&[at("off"), at("len")]), bytes(dice, n)),
+        ("r", 4..=6) => format!("r.emit {n}"),
+        ("r", 7) => format!("r.commit {n}"),
+        _ => call(dice, object, state),
+    }
+}
+
 fn first(dice: &mut Dice, object: &str) -> String {
-    let arena = dice.pick(&[1, 2, 8, 40, 300, 4096, 65536]);
+    let arena = dice.pick(&[1, 2, 8, 40, 140, 300, 4096, 65536]);
+    let arena = if dice.one_in(50) { dice.pick(&[0, 65537]) } else { arena };
     match object {
         "rb" => {
             let n = dice.pick(&[0, 1, 40]);
-            format!("rb.new {} {}", dice.pick(&[0, 7, M - 40]), bytes(dice, n))
+            format!("rb.new {} {}", dice.near(&[0, 7, M - 40, M]), bytes(dice, n))
         }
         "fc" => format!(
             "fc.new {} {} {}",
-            dice.near(&[0, 16, 1000, M]),
-            dice.near(&[0, 16, M]),
-            dice.near(&[0, 24, M])
+            dice.near(&[0, 16, 1000, M, M, TOP]),
+            dice.near(&[0, 16, 16, M, M, TOP]),
+            dice.near(&[0, 24, 24, M, M, TOP])
         ),
-        "rs" => format!("rs.new {}", dice.pick(&[1, 2, 3, 4, 5, 8, 63, 64])),
-        "s" => format!("s.new {} {arena}", dice.near(&[0, 1, 20, 5000, 70000, M])),
+        "rs" => format!("rs.new {}", dice.pick(&[0, 1, 2, 3, 4, 5, 8, 63, 64, 64, 65])),
+        "s" => format!("s.new {} {arena}", dice.near(&[0, 1, 20, 5000, 2 * arena, M, TOP])),
         _ => format!(
             "r.new {} {} {arena}",
-            dice.near(&[0, 1, 20, 300, 70000]),
-            dice.near(&[0, 20, 5000, M])
+            dice.near(&[0, 1, 20, 300, 2 * arena, M, TOP]),
+            dice.near(&[0, 20, 5000, 2 * arena, M, TOP])
         ),
     }
 }
@@ -747,14 +794,13 @@ fn main() {
     while began.elapsed() < Duration::from_secs(seconds) {
         let object = dice.pick(&["rb", "fc", "rs", "rs", "s", "s", "s", "r", "r", "r"]);
         let length = dice.pick(&[5, 20, 60, 200, 400]);
-        let crowded = dice.one_in(3);
+        let way: fn(&mut Dice, &str, &str) -> String = dice.pick(&[call, call, crowding, flowing]);
         let mut made = 0;
         let found = compare.sequence(|state| {
             made += 1;
             match made {
                 1 => Some(first(&mut dice, object)),
-                m if m < length && state != "-" && crowded => Some(crowding(&mut dice, object, state)),
-                m if m < length && state != "-" => Some(call(&mut dice, object, state)),
+                m if m < length && state != "-" => Some(way(&mut dice, object, state)),
                 _ => None,
             }
         });

@@ -8,15 +8,20 @@ pub fn option(n: Option<u64>) -> String {
     n.map_or("-".to_string(), |n| n.to_string())
 }
 
-fn crc32(data: &[u8]) -> u32 {
-    let mut crc = !0u32;
-    for b in data {
-        crc ^= *b as u32;
-        for _ in 0..8 {
-            crc = if crc & 1 == 1 { crc >> 1 ^ 0xedb8_8320 } else { crc >> 1 };
-        }
+/// The CRC-32 of each single byte.
+const CRCS: [u32; 256] = {
+    let mut all = [0; 256];
+    let mut i = 0;
+    while i < 8 * 256 {
+        let crc = if i % 8 == 0 { i as u32 / 8 } else { all[i / 8] };
+        all[i / 8] = if crc & 1 == 1 { crc >> 1 ^ 0xedb8_8320 } else { crc >> 1 };
+        i += 1;
     }
-    !crc
+    all
+};
+
+fn crc32(data: &[u8]) -> u32 {
+    !data.iter().fold(!0, |crc, b| crc >> 8 ^ CRCS[(crc as u8 ^ b) as usize])
 }
 
 /// Bytes of an answer or a state: in full up to 32, else their count and CRC-32.
