@@ -26,6 +26,7 @@ const TOP: u64 = u64::MAX;
 /// One of the two programs. It may be told several lines before it is heard; one that has ended answers nothing.
 struct Side {
     path: String,
+    ended: bool,
     _child: Child,
     to: BufWriter<ChildStdin>,
     from: BufReader<ChildStdout>,
@@ -41,6 +42,7 @@ impl Side {
         let (to, from) = (child.stdin.take().unwrap(), child.stdout.take().unwrap());
         Side {
             path: path.into(),
+            ended: false,
             _child: child,
             to: BufWriter::new(to),
             from: BufReader::new(from),
@@ -54,7 +56,7 @@ impl Side {
     fn hear(&mut self) -> String {
         let _ = self.to.flush();
         let mut said = String::new();
-        let _ = self.from.read_line(&mut said);
+        self.ended = self.from.read_line(&mut said).unwrap_or(0) == 0;
         said.trim_end().to_string()
     }
 
@@ -63,12 +65,12 @@ impl Side {
         self.hear()
     }
 
-    /// A new sequence, in a new process where the old one has ended.
+    /// A new sequence, in a new process where the old one has ended. Its echo is still to be heard.
     fn begin(&mut self) {
-        if self.ask("seq x").is_empty() {
+        if self.ended {
             *self = Side::start(&self.path);
-            self.ask("seq x");
         }
+        self.tell("seq x");
     }
 }
 
@@ -187,8 +189,7 @@ struct Difference {
     other: (&'static str, String),
 }
 
-/// A sequence under way.
-#[derive(Default)]
+/// A sequence under way, of which quiche was told.
 struct Running {
     done: Vec<String>,
     /// The port's state, and what its answers do not show.
@@ -197,6 +198,22 @@ struct Running {
     arena: u64,
     /// The calls that quiche was told, by index, with the port's lines for them.
     asked: Vec<(usize, String)>,
+    /// A difference that was seen without quiche.
+    end: Option<Difference>,
+}
+
+impl Running {
+    fn begin(oracle: &mut Side) -> Running {
+        oracle.begin();
+        Running {
+            done: Vec::new(),
+            before: "-".into(),
+            form: Form::default(),
+            arena: 0,
+            asked: Vec::new(),
+            end: None,
+        }
+    }
 }
 
 struct Compare {
@@ -209,18 +226,8 @@ struct Compare {
 }
 
 impl Compare {
-    fn begin(&mut self) -> Running {
-        self.port.begin();
-        self.oracle.begin();
-        Running {
-            before: "-".into(),
-            ..Running::default()
-        }
-    }
-
-    /// One call, and the port's line for it; quiche is told the call if it is to answer it. `None`: the sequence can go on;
-    /// `Some(None)`: it ends here; else a difference.
-    fn call(&mut self, run: &mut Running, line: String, port: String) -> Option<Option<Difference>> {
+    /// One call, and the port's line for it; quiche is told the call if it is to answer it. Can the sequence go on?
+    fn call(&mut self, run: &mut Running, line: String, port: String) -> bool {
         let name = line.split(' ').next().unwrap().to_string();
         let (said, after) = port.split_once(" | ").unwrap_or_default();
         let (said, after) = (said.to_string(), after.to_string());
@@ -233,35 +240,24 @@ impl Compare {
         let number = said
             .strip_prefix("no ")
             .map_or(0, |s| s.split(' ').next().unwrap().parse().unwrap_or(0));
-        let differs = |port, who, what| {
-            Some(Some(Difference {
-                port,
-                other: (who, what),
-            }))
-        };
-        if said.is_empty() {
-            return differs("no answer: the program has ended".into(), "document 01", "an answer".into());
-        }
-        if number != owed {
-            let what = if owed == 0 {
-                "no refusal".into()
-            } else {
-                format!("no {owed}")
-            };
-            return differs(port, "document 01", what);
+        let refusal = |n| if n == 0 { "no refusal".to_string() } else { format!("no {n}") };
+        if said.is_empty() || number != owed {
+            let other = ("document 01", refusal(owed));
+            run.end = Some(Difference { port, other });
+            return false;
         }
         if let Some((row, goes_on)) = row(&line, &run.before, &said, &after, &run.form) {
             *self.rows.entry(row).or_default() += 1;
             run.before = after;
-            return if goes_on { None } else { Some(None) };
+            return goes_on;
         }
         if added(&said) {
             *self.refused.entry(format!("{name} {said}")).or_default() += 1;
-            return if after == run.before {
-                None
-            } else {
-                differs(port, "document 01", format!("{said} | {}", run.before))
-            };
+            if after != run.before {
+                let other = ("document 01", format!("{said} | {}", run.before));
+                run.end = Some(Difference { port, other });
+            }
+            return run.end.is_none();
         }
         self.oracle.tell(&line);
         run.asked.push((run.done.len(), port));
@@ -275,12 +271,13 @@ impl Compare {
             run.form.tree = if run.form.tree { held > 2 } else { held == 4 };
         }
         run.before = after;
-        None
+        true
     }
 
     /// Hears quiche's answers to a sequence that has ended; the calls up to the first difference, and the difference.
-    fn settle(&mut self, mut run: Running, end: Option<Difference>) -> Option<(Vec<String>, Difference)> {
-        let mut found = end.map(|difference| (run.done.len(), difference));
+    fn settle(&mut self, mut run: Running) -> Option<(Vec<String>, Difference)> {
+        let mut found = run.end.map(|difference| (run.done.len(), difference));
+        self.oracle.hear();
         let answers: Vec<String> = run.asked.iter().map(|_| self.oracle.hear()).collect();
         self.compared += answers.len() as u64;
         if let Some(((at, port), oracle)) = run.asked.into_iter().zip(answers).find(|((_, port), oracle)| port != oracle) {
@@ -294,32 +291,42 @@ impl Compare {
 
     /// A whole sequence, each call by the state that the one before left.
     fn sequence(&mut self, mut next: impl FnMut(&str) -> Option<String>) -> Option<(Vec<String>, Difference)> {
-        let mut run = self.begin();
+        let mut run = Running::begin(&mut self.oracle);
+        self.port.begin();
+        self.port.hear();
         while let Some(line) = next(&run.before) {
             let port = self.port.ask(&line);
-            if let Some(end) = self.call(&mut run, line, port) {
-                return self.settle(run, end);
+            if !self.call(&mut run, line, port) {
+                break;
             }
         }
-        self.settle(run, None)
+        self.settle(run)
     }
 
-    /// A sequence that is known beforehand: the port is told all of it at once.
-    fn replay(&mut self, lines: &[String]) -> Option<(Vec<String>, Difference)> {
-        let mut run = self.begin();
-        lines.iter().for_each(|line| self.port.tell(line));
-        let answers: Vec<String> = lines.iter().map(|_| self.port.hear()).collect();
-        for (line, port) in lines.iter().zip(answers) {
-            if let Some(end) = self.call(&mut run, line.clone(), port) {
-                return self.settle(run, end);
-            }
+    /// Sequences that are known beforehand: both sides are told all of them at once. The first that has a difference.
+    fn replay(&mut self, all: &[Vec<String>]) -> Option<(Vec<String>, Difference)> {
+        for lines in all {
+            self.port.begin();
+            lines.iter().for_each(|line| self.port.tell(line));
         }
-        self.settle(run, None)
+        let mut runs = Vec::new();
+        for lines in all {
+            self.port.hear();
+            let answers: Vec<String> = lines.iter().map(|_| self.port.hear()).collect();
+            let mut run = Running::begin(&mut self.oracle);
+            let _ = lines
+                .iter()
+                .zip(answers)
+                .all(|(line, port)| self.call(&mut run, line.clone(), port));
+            runs.push(run);
+        }
+        let settled: Vec<_> = runs.into_iter().map(|run| self.settle(run)).collect();
+        settled.into_iter().flatten().next()
     }
 
     /// The smallest sequence with a difference that leaving out calls and lessening numbers finds. The creation stays.
     fn shrink(&mut self, lines: Vec<String>) -> (Vec<String>, Difference) {
-        let mut best = self.replay(&lines).expect("the difference is still there");
+        let mut best = self.replay(&[lines]).expect("the difference is still there");
         loop {
             let was = best.0.clone();
             let mut size = best.0.len() / 2;
@@ -327,7 +334,7 @@ impl Compare {
                 let mut at = 1;
                 while at < best.0.len() {
                     let behind = best.0.len().min(at + size);
-                    match self.replay(&[&best.0[..at], &best.0[behind..]].concat()) {
+                    match self.replay(&[[&best.0[..at], &best.0[behind..]].concat()]) {
                         Some(less) => best = less,
                         None => at += size,
                     }
@@ -336,7 +343,7 @@ impl Compare {
             }
             let mut i = 0;
             while i < best.0.len() {
-                match lesser(&best.0, i).iter().find_map(|less| self.replay(less)) {
+                match lesser(&best.0, i).into_iter().find_map(|less| self.replay(&[less])) {
                     Some(less) => best = less,
                     None => i += 1,
                 }
@@ -348,33 +355,38 @@ impl Compare {
     }
 }
 
-/// The sequences in which one word of the call at index i is less: a number or fewer bytes, the least first.
+/// A word with its number, or its count of bytes, made another.
+fn resized(word: &str, to: impl Fn(u64) -> u64) -> String {
+    if let Some((n, t)) = word.strip_prefix('p').and_then(|w| w.split_once(':')) {
+        return format!("p{}:{t}", to(n.parse().unwrap_or(0)));
+    }
+    if let Some(hex) = word.strip_prefix('x') {
+        return format!("x{}", &hex[..2 * to(hex.len() as u64 / 2) as usize]);
+    }
+    word.parse().map_or(word.into(), |n| to(n).to_string())
+}
+
+/// The sequences in which the call at index i is less: one of its words, the least first, or all of them, here or everywhere.
 fn lesser(lines: &[String], i: usize) -> Vec<Vec<String>> {
     let words: Vec<&str> = lines[i].split(' ').collect();
-    let steps = |n: u64| (0..64).map(move |k| n - (n >> k)).filter(move |m| *m < n);
     let mut all = Vec::new();
+    let mut with = |line: String| {
+        let mut copy = lines.to_vec();
+        copy[i] = line;
+        all.push(copy);
+    };
     for (j, word) in words.iter().enumerate().skip(1) {
-        let tries: Vec<String> = if let Some((n, t)) = word.strip_prefix('p').and_then(|w| w.split_once(':')) {
-            let same = (t != "0").then(|| format!("p{n}:0"));
-            steps(n.parse().unwrap_or(0))
-                .map(|m| format!("p{m}:{t}"))
-                .chain(same)
-                .collect()
-        } else if let Some(hex) = word.strip_prefix('x') {
-            steps(hex.len() as u64 / 2)
-                .map(|m| format!("x{}", &hex[..2 * m as usize]))
-                .collect()
-        } else {
-            steps(word.parse().unwrap_or(0)).map(|m| m.to_string()).collect()
-        };
-        for less in &tries {
+        let plain = word.split_once(':').map(|(count, _)| format!("{count}:0"));
+        for less in (0..64).map(|k| resized(word, |n| n - (n >> k))).chain(plain) {
             let mut words = words.clone();
-            words[j] = less;
-            let mut copy = lines.to_vec();
-            copy[i] = words.join(" ");
-            all.push(copy);
+            words[j] = &less;
+            with(words.join(" "));
         }
     }
+    let half = |line: &String| line.split(' ').map(|w| resized(w, |n| n / 2)).collect::<Vec<_>>().join(" ");
+    with(half(&lines[i]));
+    all.push(lines.iter().map(half).collect());
+    all.retain(|less| less != lines);
     all
 }
 
@@ -749,17 +761,15 @@ fn fail(compare: &mut Compare, lines: Vec<String>) -> ! {
 
 fn exhaustive(compare: &mut Compare) {
     for (first, depth, letters) in alphabets() {
-        let mut at = vec![0usize; depth];
+        let mut at = vec![0usize; depth - 1];
         loop {
-            let lines: Vec<String> = [first]
-                .into_iter()
-                .chain(at.iter().map(|&j| letters[j]))
-                .map(str::to_string)
-                .collect();
-            if let Some((lines, _)) = compare.replay(&lines) {
+            let front: Vec<&str> = [first].into_iter().chain(at.iter().map(|&j| letters[j])).collect();
+            let with = |last: &&str| front.iter().chain([last]).map(|line| line.to_string()).collect();
+            let all: Vec<Vec<String>> = letters.iter().map(with).collect();
+            if let Some((lines, _)) = compare.replay(&all) {
                 fail(compare, lines);
             }
-            let Some(j) = (0..depth).rev().find(|&j| at[j] + 1 < letters.len()) else {
+            let Some(j) = (0..depth - 1).rev().find(|&j| at[j] + 1 < letters.len()) else {
                 break;
             };
             at[j] += 1;
