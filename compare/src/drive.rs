@@ -1,9 +1,10 @@
 //! Holds the port beside quiche: `drive PORT ORACLE SECONDS SEED`.
 //!
 //! Both programs speak the call script. Each call goes to the port first. What the port refuses by a refusal that quiche does
-//! not have, and what stands in a row of docs/DIFFERENCES.md, does not reach quiche; every other answer, and the whole state
-//! after it, must be the same text. First every short sequence over small alphabets, then random sequences around every
-//! boundary for the time given. A difference in no row is shrunk, printed, and the exit status is 1.
+//! not have, and what stands in a row of docs/DIFFERENCES.md, does not reach quiche: it is held to document 01's rules and to the
+//! row (owed.rs). Every other answer, and the whole state after it, must be the same text. First every short sequence over small
+//! alphabets, then random sequences around every boundary for the time given. A difference in no row is shrunk, printed, and the
+//! exit status is 1.
 
 mod owed;
 
@@ -248,8 +249,13 @@ impl Compare {
         }
         if let Some((row, goes_on)) = row(&line, &run.before, &said, &after, &run.form) {
             *self.rows.entry(row).or_default() += 1;
+            let kept = owed::by_row(row, &line, &run.before);
+            if port != kept {
+                let other = ("docs/DIFFERENCES.md", kept);
+                run.end = Some(Difference { port, other });
+            }
             run.before = after;
-            return goes_on;
+            return goes_on && run.end.is_none();
         }
         if added(&said) {
             *self.refused.entry(format!("{name} {said}")).or_default() += 1;

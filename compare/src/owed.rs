@@ -1,7 +1,8 @@
-//! Which refusal document 01 lays down for a call, read off the text of the state before it.
+//! What the port owes where quiche cannot say it, read off the text of the state before the call: which refusal document 01 lays
+//! down, and what a row of docs/DIFFERENCES.md has in its column "here".
 //!
-//! quiche lacks most of these refusals, so it cannot say where one is due. This is a second reading of the rules, in whole numbers
-//! and over lists, without the code's tables and steps: a refusal that comes too early, too late or in the wrong order is seen here.
+//! This is a second reading of the rules, in whole numbers and over lists, without the code's tables and steps: a refusal that comes
+//! too early, too late or in the wrong order is seen here, and a row that the port does not keep to.
 
 use crate::field;
 use crate::is_set;
@@ -113,17 +114,20 @@ impl Asked<'_> {
         ])
     }
 
-    fn hand_out(&self) -> u64 {
+    /// Does the first chunk start at `off`, and how many bytes adjoin from there on?
+    fn ready(&self) -> (bool, u128) {
         let (held, off) = (chunks(self.state), self.at("off"));
-        let mut end = off;
-        for c in held.iter() {
-            end = if c.0 + c.2 == end { c.0 + c.1 } else { end };
-        }
+        let end = held.iter().fold(off, |end, c| if c.0 + c.2 == end { c.0 + c.1 } else { end });
+        (held.first().is_some_and(|c| c.0 + c.2 == off), end.saturating_sub(off))
+    }
+
+    fn hand_out(&self) -> u64 {
+        let (ready, bytes) = self.ready();
         first(&[
             (self.lent != self.arena, 10),
-            (held.first().is_none_or(|c| c.0 + c.2 != off), 8),
+            (!ready, 8),
             (is_set(self.state, "err"), 9),
-            (self.at("consumed") + self.n[0].min(end.saturating_sub(off)) > M, 1),
+            (self.at("consumed") + self.n[0].min(bytes) > M, 1),
         ])
     }
 
@@ -147,13 +151,10 @@ fn number(word: &str) -> u128 {
     }
 }
 
-/// The number of the refusal that a call is owed, 0 for a success; `arena` is the length at creation.
-pub fn owed(line: &str, state: &str, arena: u64) -> u64 {
+/// A call with its name.
+fn asked<'a>(line: &'a str, state: &'a str, arena: u64) -> (&'a str, Asked<'a>) {
     let mut words: Vec<&str> = line.split(' ').collect();
     let call = words.remove(0);
-    if state == "-" && !call.ends_with(".new") {
-        return 0;
-    }
     let lent = words.last().and_then(|w| w.strip_prefix('@')?.parse().ok());
     let asked = Asked {
         n: words.iter().map(|w| number(w)).collect(),
@@ -161,6 +162,15 @@ pub fn owed(line: &str, state: &str, arena: u64) -> u64 {
         arena: arena.into(),
         lent: lent.unwrap_or(arena).into(),
     };
+    (call, asked)
+}
+
+/// The number of the refusal that a call is owed, 0 for a success; `arena` is the length at creation.
+pub fn owed(line: &str, state: &str, arena: u64) -> u64 {
+    let (call, asked) = asked(line, state, arena);
+    if state == "-" && !call.ends_with(".new") {
+        return 0;
+    }
     let (n, no_arena) = (&asked.n, |a: u128| a == 0 || a > 65536);
     let chunk = chunks(state).first().copied().unwrap_or((0, 0, 0));
     match call {
@@ -186,5 +196,59 @@ pub fn owed(line: &str, state: &str, arena: u64) -> u64 {
         "r.reset" => asked.recv_reset(),
         "r.shutdown" => first(&[(asked.at("drain") == 1, 8)]),
         _ => 0,
+    }
+}
+
+fn set_text(set: impl Iterator<Item = (u128, u128)>) -> String {
+    let all: Vec<String> = set.map(|(s, e)| format!("{s}-{e}")).collect();
+    format!("[{}]", all.join(","))
+}
+
+/// All getters of a receive buffer of which more is consumed than the limit: an update is due exactly if half a window is not 0.
+fn getters(asked: &Asked) -> String {
+    let at = |name| asked.at(name);
+    let (ready, bytes) = asked.ready();
+    format!(
+        "ok off_front={} max_off={} is_fin={} is_draining={} ready={} max_data={} window={} max_data_next={} readable_len={bytes} almost_full={}",
+        at("off"),
+        at("len"),
+        (asked.fin() == Some(at("off"))) as u8,
+        at("drain"),
+        ready as u8,
+        at("limit"),
+        at("window"),
+        at("consumed") + at("window"),
+        (asked.fin().is_none() && at("window") > 1) as u8
+    )
+}
+
+/// The port's line for a call that stands in a row of docs/DIFFERENCES.md, as the row has it.
+pub fn by_row(row: &str, line: &str, state: &str) -> String {
+    let (call, asked) = asked(line, state, 0);
+    let n = &asked.n;
+    let held = || ranges(state).into_iter().map(|r| (u128::from(r.0), u128::from(r.1)));
+    match &row[..4] {
+        "D-10" => "ok | []".into(),
+        "D-11" => {
+            let new = (n[0], n.get(1).copied().unwrap_or(n[0] + 1));
+            format!("ok | {}", set_text([new].into_iter().chain(held().skip(1))))
+        }
+        "D-12" => {
+            let stays = |r: &(u128, u128)| r.0 > n[0] || r.1 > n[0] + 1;
+            let left = held().filter(stays).map(|r| (r.0.max(n[0] + 1), r.1));
+            format!("ok | {}", set_text(left))
+        }
+        "D-13" => format!("ok - | {state}"),
+        "D-20" if call == "r.get" => format!("{} | {state}", getters(&asked)),
+        "D-20" => format!("ok {} | {state}", (asked.at("window") > 1) as u8),
+        "D-30" => format!("no 4 | {state}"),
+        "D-31" => format!("ok | {state}"),
+        _ => {
+            let (code, size, window) = (n[0], n[1], &state[state.find("consumed=").unwrap()..]);
+            let (first, second) = (size - asked.at("len"), size - asked.at("off"));
+            format!(
+                "ok {first} {second} | chunks=[{size}+0~0] kept=x off={size} len={size} fin={size} err={code} drain=0 {window}"
+            )
+        }
     }
 }
