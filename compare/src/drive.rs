@@ -153,7 +153,7 @@ fn row(line: &str, before: &str, said: &str, after: &str, form: &Form) -> Option
     if let Some((s, e)) = inserts {
         let joins = held.iter().any(|r| r.0 <= e && s <= r.1);
         let lowest = held.first().is_some_and(|r| e < r.0);
-        if !form.tree && !joins && lowest && held.len() as u64 == form.capacity {
+        if said == "ok" && !form.tree && !joins && lowest && held.len() as u64 == form.capacity {
             return Some(("D-11 a full inline set given a lowest range", false));
         }
     }
