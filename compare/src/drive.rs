@@ -364,7 +364,8 @@ impl Compare {
 /// A word with its number, or its count of bytes, made another.
 fn resized(word: &str, to: impl Fn(u64) -> u64) -> String {
     if let Some((n, t)) = word.strip_prefix('p').and_then(|w| w.split_once(':')) {
-        return format!("p{}:{t}", to(n.parse().unwrap_or(0)));
+        let n = to(n.parse().unwrap_or(0));
+        return if n == 0 { "x".into() } else { format!("p{n}:{t}") };
     }
     if let Some(hex) = word.strip_prefix('x') {
         return format!("x{}", &hex[..2 * to(hex.len() as u64 / 2) as usize]);
