@@ -354,6 +354,9 @@ impl Compare {
                     None => i += 1,
                 }
             }
+            if let Some(less) = lowered(&best.0).into_iter().find_map(|less| self.replay(&[less])) {
+                best = less;
+            }
             if best.0 == was {
                 return best;
             }
@@ -373,7 +376,7 @@ fn resized(word: &str, to: impl Fn(u64) -> u64) -> String {
     word.parse().map_or(word.into(), |n| to(n).to_string())
 }
 
-/// The sequences in which the call at index i is less: one of its words, the least first, or all of them, here or everywhere.
+/// The sequences in which the call at index i is less: one of its words, the least first, or all of them by half.
 fn lesser(lines: &[String], i: usize) -> Vec<Vec<String>> {
     let words: Vec<&str> = lines[i].split(' ').collect();
     let mut all = Vec::new();
@@ -390,11 +393,27 @@ fn lesser(lines: &[String], i: usize) -> Vec<Vec<String>> {
             with(words.join(" "));
         }
     }
-    let half = |line: &String| line.split(' ').map(|w| resized(w, |n| n / 2)).collect::<Vec<_>>().join(" ");
-    with(half(&lines[i]));
-    all.push(lines.iter().map(half).collect());
+    with(each_word(&lines[i], |w| resized(w, |n| n / 2)));
     all.retain(|less| less != lines);
     all
+}
+
+/// The sequences in which every number from some size on is less by that size, so that numbers that hang together stay so.
+fn lowered(lines: &[String]) -> Vec<Vec<String>> {
+    let top = lines
+        .iter()
+        .flat_map(|l| l.split(' '))
+        .filter_map(|w| w.parse::<u64>().ok())
+        .max();
+    let steps = (1..64).map(|k| top.unwrap_or(0) >> k).filter(|d| *d > 0);
+    let less = |w: &str, d| w.parse().map_or(w.into(), |n: u64| n.checked_sub(d).unwrap_or(n).to_string());
+    steps
+        .map(|d| lines.iter().map(|l| each_word(l, |w| less(w, d))).collect())
+        .collect()
+}
+
+fn each_word(line: &str, to: impl Fn(&str) -> String) -> String {
+    line.split(' ').map(to).collect::<Vec<_>>().join(" ")
 }
 
 /// Small alphabets, and a first call for each: every sequence of up to `depth` calls is tried.
