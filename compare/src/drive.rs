@@ -244,6 +244,11 @@ impl Compare {
         let refusal = |n| if n == 0 { "no refusal".to_string() } else { format!("no {n}") };
         if said.is_empty() || number != owed {
             let other = ("document 01", refusal(owed));
+            let port = if said.is_empty() {
+                "the program has ended".into()
+            } else {
+                port
+            };
             run.end = Some(Difference { port, other });
             return false;
         }
@@ -315,15 +320,23 @@ impl Compare {
             self.port.begin();
             lines.iter().for_each(|line| self.port.tell(line));
         }
+        let hear = |side: &mut Side, lines: &Vec<String>| -> Vec<String> {
+            side.hear();
+            lines.iter().map(|_| side.hear()).collect()
+        };
+        let answers: Vec<_> = all.iter().map(|lines| hear(&mut self.port, lines)).collect();
+        if self.port.ended {
+            // Its last words are lost with it: once more, call by call.
+            return all.iter().find_map(|lines| {
+                let mut lines = lines.iter().cloned();
+                self.sequence(|_| lines.next())
+            });
+        }
         let mut runs = Vec::new();
-        for lines in all {
-            self.port.hear();
-            let answers: Vec<String> = lines.iter().map(|_| self.port.hear()).collect();
+        for (lines, answers) in all.iter().zip(answers) {
             let mut run = Running::begin(&mut self.oracle);
-            let _ = lines
-                .iter()
-                .zip(answers)
-                .all(|(line, port)| self.call(&mut run, line.clone(), port));
+            let mut said = lines.iter().cloned().zip(answers);
+            while said.next().is_some_and(|(line, port)| self.call(&mut run, line, port)) {}
             runs.push(run);
         }
         let settled: Vec<_> = runs.into_iter().map(|run| self.settle(run)).collect();
