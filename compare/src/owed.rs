@@ -4,9 +4,9 @@
 //! This is a second reading of the rules, in whole numbers and over lists, without the code's tables and steps: a refusal that comes
 //! too early, too late or in the wrong order is seen here, and a row that the port does not keep to.
 
-use crate::field;
-use crate::is_set;
-use crate::ranges;
+use crate::rows::field;
+use crate::rows::is_set;
+use crate::rows::ranges;
 
 const M: u128 = (1 << 62) - 1;
 
