@@ -1,7 +1,7 @@
 -- The places of offsets in a ring of A places. Assumes nothing.
 use mathlib.Core.Path.{_≡_, sym, ap, _∙_}
-use Prim.Native.Nat.{ℕ, suc, _+_, _-_, _%_, _≤_, _<_}
-use native.Mathlib.Nat.{suc-mod, mod-eq-of-lt, mod-self, mod-lt, mod-add-mod, mod-eq-sub-mod}
+use Prim.Native.Nat.{ℕ, _+_, _-_, _%_, _≤_, _<_}
+use native.Mathlib.Nat.{mod-eq-of-lt, mod-lt, mod-add-mod, mod-eq-sub-mod}
 use native.Mathlib.Omega.{arith}
 use Rattle.tables.proofs.Tables.{cases}
 

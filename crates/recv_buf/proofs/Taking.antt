@@ -7,17 +7,16 @@ use native.Mathlib.Nat.{add-zero}
 use native.Mathlib.Omega.{arith}
 use borrow.Author.Tests.{lt-ltb, le-ltb, le-leb, lt-leb, eq-eqb, ne-eqb}
 use lib.Dec.{ltb, leb, eqb}
-use lib.ListN.{length, take, drop, getD}
+use lib.ListN.{drop, getD}
 use Rattle.tables.proofs.Tables as tables
 use Rattle.refusal.specs.Rules.{M}
 use Rattle.range_buf.specs.declared.RangeBuf.{RangeBuf}
 use Rattle.range_buf.specs.Rules.{start, end, avail, used, zeroBuf}
 use Rattle.recv_buf.specs.declared.RecvBuf.{RecvBuf}
-use Rattle.recv_buf.specs.declared.Reach.{Reach}
 use Rattle.recv_buf.specs.State.{viewOf, Good}
 use Rattle.recv_buf.specs.Rules.{taken, leftOver, takes, adjoining}
-use Rattle.recv_buf.specs.Steps.{putFront, leftAt, Fits, Reached}
-use Rattle.recv_buf.proofs.Good.{table, few, next, done, chain-at, within-at, chunk-good}
+use Rattle.recv_buf.specs.Steps.{putFront, Reached}
+use Rattle.recv_buf.proofs.Good.{table, next, done, chain-at, within-at}
 
 -- ---- a step, by cases
 

@@ -9,7 +9,7 @@ use native.Mathlib.Omega.{arith}
 use lib.Dec.{ltb, leb, eqb}
 use lib.ListN.{length, take, drop, getD, length-append, length-take, length-drop}
 use lib.Seq.{take-at, drop-at}
-use borrow.Author.Tests.{leb-true, ltb-false, eqb-true, not-false}
+use borrow.Author.Tests.{leb-true, ltb-false, eqb-true, eqb-false, not-false}
 use Rattle.refusal.specs.Rules.{M, withCount, after, known}
 use Rattle.refusal.specs.declared.Refusal.{Refusal}
 use Rattle.refusal.specs.declared.Answer.{Answer}
@@ -17,9 +17,9 @@ use Rattle.refusal.specs.declared.Answer.the-variants.{Done, Refused}
 use Rattle.refusal.specs.declared.CountAnswer.the-variants.{Refused as NoCount}
 use Rattle.refusal.specs.declared.EmitAnswer.the-variants.{Refused as NoBytes}
 use Rattle.refusal.specs.declared.SizesAnswer.the-variants.{Refused as NoSizes}
+use Rattle.refusal.proofs.Answers.{after-elim}
 use Rattle.arena.specs.Rules.{held}
 use Rattle.arena.proofs.Laws.{length-kept, length-held, kept-elsewhere, held-before, held-kept}
-use Rattle.range_buf.specs.declared.RangeBuf.{RangeBuf}
 use Rattle.ranges.specs.State.{upto}
 use Rattle.ranges.specs.Rules.{memberOf, placed}
 use Rattle.tables.proofs.Tables.{by-test, cond-elim}
@@ -27,25 +27,18 @@ use Rattle.send_buf.specs.declared.SendBuf.{SendBuf}
 use Rattle.send_buf.specs.declared.Outcome.{Outcome}
 use Rattle.send_buf.specs.declared.EmitOutcome.{EmitOutcome}
 use Rattle.send_buf.specs.declared.SizesOutcome.{SizesOutcome}
-use Rattle.send_buf.specs.State.{Send, viewOf, bufOf, base, Upto, GoodSend, Good}
+use Rattle.send_buf.specs.State.{Send, viewOf, bufOf, base, GoodSend, Good}
 use Rattle.send_buf.specs.Rules.{otherArena, ackOff, accepted, writeJudged, written, writtenArena, front, first, emitCount, sent, emitted, emittedOut, ackJudged, ackedMore, acks, dropBytes, dropped, ackDrops, settled, lossJudged, lost, lostBytes, retransmits, cutOff, unsent, stops, shuts, raised}
 use Rattle.send_buf.proofs.Chunks.{front-in, copied-in, copied-le, total-sent, total-behind}
 use Rattle.send_buf.proofs.Position.{copied-some, front-below}
 use Rattle.send_buf.proofs.Acked.{upto-weak, ack-upto, placed-new, placed-old, placed-only, placed-all}
-use Rattle.send_buf.proofs.Judged.{after-elim, writes}
-use Rattle.tables.proofs.Tests.{either, or-false}
+use Rattle.send_buf.proofs.Judged.{writes}
+use Rattle.tables.proofs.Tests.{decided, or-false}
 
 module _ (s : Send) (g : GoodSend s) where
-  -- what is acked was emitted, after a reset too: then no chunk is left, and all was emitted
-  pub acked-emitted : Upto (s .emitted) (s .acked)
-  acked-emitted =
-      either (g .acked-in) (λ h. h)
-      (λ h. let e : base (s .chunks) (s .off) ≡ s .off = ap (λ (cs : List RangeBuf). base cs (s .off)) (h .0) in
-      upto-weak (s .off) (s .emitted) (s .acked) (omega (arith, g .base-in)) (h .2))
-
   -- contiguous ack never passes what was emitted, nor the end offset
   pub ack-emitted : ackOff (s .acked) ≤ s .emitted
-  ack-emitted = ack-upto (s .emitted) (s .acked) acked-emitted
+  ack-emitted = ack-upto (s .emitted) (s .acked) (g .acked-in)
 
   pub ack-le : ackOff (s .acked) ≤ s .off
   ack-le = omega (arith, ack-emitted, g .emitted-in)
@@ -70,7 +63,7 @@ module _ (s : Send) (g : GoodSend s) where
 
   -- and the range that it acks swallows all others
   pub reset-single : placed (upto 0 (cutOff s)) (s .acked) ≡ upto 0 (cutOff s) ∷ []
-  reset-single = placed-all (cutOff s) (s .acked) (g .acked-order) (upto-weak (s .emitted) (cutOff s) (s .acked) (omega arith) acked-emitted)
+  reset-single = placed-all (cutOff s) (s .acked) (g .acked-order) (upto-weak (s .emitted) (cutOff s) (s .acked) (omega arith) (g .acked-in))
 
   -- the front lies within the chunks, and an emit copies no more than there is, nor than there is room for
   pub front-low : base (s .chunks) (s .off) ≤ front s
@@ -132,9 +125,6 @@ first-of : {A B : Type 0} (f : A → B) (t : Bool) (x y : A) (v : B) → (f y �
 first-of f true x y v n e = refl
 first-of f false x y v n e = absurd (n e)
 
-is-first : {A : Type 0} {t : Bool} → t ≡ true → (x y : A) → cond t x y ≡ x
-is-first {t} e x y = ap (λ (t : Bool). cond t x y) e
-
 -- each call, refused: the buffer is b, and arena and output are as they were
 pub record Keeps (b : SendBuf) : Type 0 where
   pub write : (ar input : List ℕ) (fin : Bool) (why : Refusal) → written (viewOf b) (length ar) (length input) fin .answer ≡ NoCount why
@@ -188,7 +178,7 @@ module _ (b : SendBuf) (g : Good b) where
   unfolding shuts
   shut-refused why e =
       let h : b .shutdown ≡ true = first-of (λ (o : SizesOutcome). o .answer) (b .shutdown) _ _ (NoSizes why) (λ q. let z : _≡_ {A = ℕ} 0 1 = cc in omega arith) e in
-      ap (λ (o : SizesOutcome). o .buf) (is-first h _ _) ∙ sym (g .whole)
+      ap (λ (o : SizesOutcome). o .buf) (decided h _ _) ∙ sym (g .whole)
 
   limit-refused : (limit : ℕ) (why : Refusal) → raised (viewOf b) limit .answer ≡ Refused why → raised (viewOf b) limit .buf ≡ b
   unfolding raised
@@ -226,9 +216,12 @@ length-written s ar input fin =
     (λ _. length-kept ar (s .off) (take (accepted s (length input)) input))
     refl
 
--- an arena that is accepted has the length of the one at creation
-pub right-arena : (s : Send) (a : ℕ) → otherArena s a ≡ false → a ≡ s .room
-right-arena s a e = eqb-true a (s .room) (not-false (eqb a (s .room)) (or-false (eqb a 0) (not (eqb a (s .room))) e .1))
+-- an arena that is accepted has bytes, as many as the one at creation
+pub right-arena : (s : Send) (a : ℕ) → otherArena s a ≡ false → (0 < a) × (a ≡ s .room)
+right-arena s a e =
+    let p = or-false (eqb a 0) (not (eqb a (s .room))) e in
+    let z : a ≡ 0 → ⊥ = eqb-false a 0 (p .0) in
+    (omega (arith, z), eqb-true a (s .room) (not-false (eqb a (s .room)) (p .1)))
 
 -- so the bytes held stay, and an accepted write's follow them
 module _ (s : Send) (g : GoodSend s) (ar input : List ℕ) (fin : Bool) where
@@ -238,7 +231,7 @@ module _ (s : Send) (g : GoodSend s) (ar input : List ℕ) (fin : Bool) where
       after-elim (λ (x : List ℕ). held x q n ≡ held ar q n) (writeJudged s (length ar) (length input) fin)
       (λ e. let k : ℕ = accepted s (length input) in
       let w = writes s (length ar) (length input) fin e in
-      let r : length ar ≡ s .room = right-arena s (length ar) (w .arena) in
+      let r : length ar ≡ s .room = right-arena s (length ar) (w .arena) .1 in
       held-before ar (s .off) (take k input) q n l
       (omega (arith, length-take k input, ltb-false (s .room) (k + (s .off - base (s .chunks) (s .off))) (w .room))))
       refl
@@ -249,7 +242,7 @@ module _ (s : Send) (g : GoodSend s) (ar input : List ℕ) (fin : Bool) where
   write-kept e =
       let k : ℕ = accepted s (length input) in
       let w = writes s (length ar) (length input) fin e in
-      let r : length ar ≡ s .room = right-arena s (length ar) (w .arena) in
+      let r : length ar ≡ s .room = right-arena s (length ar) (w .arena) .1 in
       let n : length (take k input) ≡ k = omega (arith, length-take k input, skip-nothing s g (length input)) in
       let f : length (take k input) ≤ length ar = omega (arith, ltb-false (s .room) (k + (s .off - base (s .chunks) (s .off))) (w .room)) in
       rw e (rw n at (held-kept ar (s .off) (take k input) f))

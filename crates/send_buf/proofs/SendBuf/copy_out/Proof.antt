@@ -3,7 +3,8 @@ use Prim.Native.Nat.{_+_, _-_, _<_, _≤_}
 use Rattle.range_buf.specs.Rules.{avail, start, zeroBuf}
 use Rattle.refusal.specs.Rules.{M}
 use Rattle.send_buf.proofs.Acking.{refused}
-use Rattle.send_buf.proofs.Emitting.{Emitting, ate, emit-starts, ends-apart, ends-behind, ends-full, entry-good, full, part, used-good}
+use Rattle.send_buf.proofs.Emitting.{Emitting, ate, emit-starts, ends-apart, ends-behind, ends-full, entry-good, full, part}
+use Rattle.range_buf.proofs.Kept.{used-good}
 use Rattle.send_buf.proofs.Good.{done, next}
 use Rattle.send_buf.specs.Rules.{front}
 use Rattle.send_buf.specs.State.{viewOf}
@@ -110,7 +111,7 @@ len-requires c κs =
     let o = c .before .before .before .consume in
     let d = c .before .before .before .before .before .before .drain in
     rw (ate (getD (v .next .«data») (v .i) zeroBuf) (d .result) (o .result) (d .ensures .0 .2) (o .ensures) .1)
-    (used-good (getD (v .next .«data») (v .i) zeroBuf) (d .result) (entry-good (s .args .arena .now) (s .args .out .now) b (s .pre .0) (v .out) (v .next) (v .i) (v .done) (v .inv) (c .before .before .before .before .before .before .before .before .before .before .before .loop-test .taken)) (d .ensures .0 .2))
+    (used-good (getD (v .next .«data») (v .i) zeroBuf) (d .result) (d .ensures .0 .2) (entry-good (s .args .arena .now) (s .args .out .now) b (s .pre .0) (v .out) (v .next) (v .i) (v .done) (v .inv) (c .before .before .before .before .before .before .before .before .before .before .before .loop-test .taken)))
 
 add-i : tie.Need-add-i Inv-loop μ-loop
 add-i c = search needs
