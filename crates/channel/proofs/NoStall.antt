@@ -15,27 +15,26 @@
 use mathlib.Core.Path.{_≡_, refl, sym, ap, subst, subst₂, _∙_}
 use mathlib.Core.Logic.{_⊎_, inl, inr}
 use mathlib.Core.Bool.{Bool, true, false, _&&_}
-use mathlib.Core.Option.{Option, none, some}
+use mathlib.Core.Option.{some}
 use mathlib.Core.List.{List, [], _∷_, _++_, append-nil}
 use Prim.Native.Nat.{ℕ, zero, suc, _+_, _*_, _≤_, _<_, max}
 use native.Mathlib.Nat.{mul-zero}
 use native.Mathlib.Omega.{arith}
 use lib.Dec.{ltb}
 use lib.ListN.{length, take, getElem?}
-use borrow.Author.Tests.{le-ltb, ne-eqb}
 use Rattle.tables.proofs.Tables.{cond-elim}
 use Rattle.refusal.specs.Rules.{M, after as sentAfter, isAt as sentAt, after, known, isAt, withBytes}
 use Rattle.refusal.specs.declared.Answer.{Answer}
 use Rattle.refusal.specs.declared.Answer.the-variants.{Done, Refused}
-use Rattle.refusal.specs.declared.Refusal.{Refusal}
-use Rattle.refusal.specs.declared.Refusal.the-variants.{TableFull}
+use Rattle.refusal.specs.declared.Refusal.the-variants.{TableFull, Done as NothingReady}
+use Rattle.refusal.proofs.Answers.{not-both}
 use Rattle.arena.proofs.Laws.{length-held}
 use Rattle.ranges.specs.Rules.{memberOf}
 use Rattle.flowcontrol.specs.declared.FlowControl.{FlowControl}
 use Rattle.flowcontrol.specs.Rules.{committed, autotuned}
 use Rattle.send_buf.specs.declared.Outcome.{Outcome as SendOutcome}
 use Rattle.send_buf.specs.declared.EmitOutcome.{EmitOutcome as SentOutcome}
-use Rattle.send_buf.specs.State.{Send, viewOf as sendView, bufOf as sendBufOf, GoodSend}
+use Rattle.send_buf.specs.State.{Send, bufOf as sendBufOf, GoodSend}
 use Rattle.send_buf.specs.Rules as send
 use Rattle.send_buf.proofs.Views.{view-of}
 use Rattle.send_buf.proofs.Facts.{ack-only, emit-gives}
@@ -47,15 +46,15 @@ use Rattle.recv_buf.specs.Rfc9000.{Frame, endOf, Brings}
 use Rattle.recv_buf.proofs.Good.{view-buf}
 use Rattle.recv_buf.proofs.Lists.{held-ready}
 use Rattle.recv_buf.proofs.Kept.{wrote-good}
-use Rattle.channel.specs.System.{SendEnd, RecvEnd, System, sender, receiver, Setup, fresh, Premises, Move, write, emit, deliver, read, commit, tune, raise, ack, ackDrop, lose, withSend, writes, frameOf, emits, raises, acks, ackDrops, loses, acceptedBy, takes, reads, bytesOf, commits, tunes, step, run, named, onSend, onRecv}
+use Rattle.channel.specs.System.{SendEnd, RecvEnd, System, sender, receiver, Setup, fresh, Premises, Move, write, emit, deliver, read, commit, tune, raise, ack, ackDrop, lose, withSend, writes, frameOf, emits, raises, acks, ackDrops, loses, acceptedBy, takes, reads, bytesOf, commits, tunes, step, run, onSend, onRecv}
 use Rattle.channel.specs.Demand3.{onDelivery}
 use Rattle.channel.proofs.Lists.{all-at}
 use Rattle.channel.proofs.SendSide.{Honest}
 use Rattle.channel.proofs.RecvSide.{Follows, Covers, covers-stay, covers-new, wrote-same, took-covers}
-use Rattle.channel.proofs.Joined.{Inv, inv-fresh, inv-step, inv-run}
+use Rattle.channel.proofs.Joined.{Inv, sender-is, receiver-is, inv-fresh, named-elim, inv-step, inv-run}
 use Rattle.channel.proofs.Demand3.{safety}
 use Rattle.channel.proofs.Cuts.{Grid, OnGrid, on-grid}
-use Rattle.channel.proofs.Table.{Fair, Tidy, tidy-wrote, tidy-took, room-wrote, not-full, not-stalled, fits-at-off, Stalled, stalled-write, stalled-emit}
+use Rattle.channel.proofs.Table.{Fair, Tidy, tidy-wrote, tidy-took, not-full, not-stalled, fits-at-off, Stalled, stalled-write, stalled-emit}
 use Rattle.channel.proofs.Ends.{begin, Poised, poised-new, front-is, poised-wrote, begin-wrote, poised-sent, begin-sent, poised-acked, begin-acked, poised-dropped, begin-dropped, begin-drops, poised-lost, begin-lost, acked-lost}
 use Rattle.tables.proofs.Tests.{either, clash, and-true}
 
@@ -186,11 +185,6 @@ reads-elim P x out f g h =
         → P (receiver (record { buf = bufOf (after said went (recv.refusedTake (receiver x))); arena = []; out = []; accepted = []; granted = [] }))
     go Done f = subst P (sym (view-buf went)) (f refl)
     go (Refused why) f = subst P (sym (view-buf (recv.refusedTake (receiver x)))) g
-
--- a move that names what is not there does nothing
-named-elim : {B : Type 0} (P : System → Type 0) (o : Option B) (f : B → System) (y : System) → ((b : B) → o ≡ some b → P (f b)) → P y → P (named o f y)
-named-elim P none f y h k = k
-named-elim P (some b) f y h k = h b refl
 
 -- ---- the rule
 
@@ -388,7 +382,7 @@ module _ (Cut : ℕ → Type 0) (L top A : ℕ) (grid : Grid Cut L top) where
         takes-elim (λ (r : Recv) (got : List Frame). Links Cut top A s frames r got) (y .rcv) f
         (λ e. receiver-on s frames r got t r′
         (tidy-wrote Cut L top grid r (f .from) n (f .fin) (follows .good) (t .tidy) (fair-now (begin s) r f b c) (follows .reading))
-        (room-wrote r (f .from) n (f .fin))
+        (wrote-same (y .snd .written) (s .fin) r (y .rcv .arena) f follows h .2)
         (covers-stay (y .snd .written) (s .fin) r (y .rcv .arena) f follows h)
         (got ++ f ∷ []) (each-append (λ (f : Frame). Cut (endOf f)) got (f ∷ []) (t .ends) (each-one (λ (f : Frame). Cut (endOf f)) f (c .high))))
         (subst (λ (fs : List Frame). Links Cut top A s frames r fs) (sym (append-nil got)) t)
@@ -481,18 +475,6 @@ module _ (Cut : ℕ → Type 0) (L top A : ℕ) (grid : Grid Cut L top) where
 -- ---- the theorems
 
 module _ (u : Setup) (p : Premises u) where
-  fine-send : send.created (u .sendLimit) (u .sendRoom) .buf ≡ sendBufOf (send.newSend (u .sendRoom) (u .sendLimit))
-  unfolding send.created
-  fine-send =
-      let z : u .sendRoom ≡ 0 → ⊥ = λ e. omega (arith, p .send-room) in
-      rw (ne-eqb (u .sendRoom) 0 z, le-ltb 65536 (u .sendRoom) (p .send-room-in), le-ltb M (u .sendLimit) (omega (arith, p .starting, p .in-window, p .window-in)))
-
-  fine-recv : recv.created (u .recvLimit) (u .maxWindow) (u .recvRoom) .buf ≡ bufOf (recv.newRecv (u .recvRoom) (u .recvLimit) (u .maxWindow))
-  unfolding recv.created
-  fine-recv =
-      let z : u .recvRoom ≡ 0 → ⊥ = λ e. omega (arith, p .recv-room) in
-      rw (ne-eqb (u .recvRoom) 0 z, le-ltb 65536 (u .recvRoom) (p .recv-room-in), le-ltb M (u .recvLimit) (omega (arith, p .in-window, p .window-in)), le-ltb M (u .maxWindow) (p .window-in))
-
   module _ (Cut : ℕ → Type 0) (L top : ℕ) (grid : Grid Cut L top) (zero-cut : Cut 0) (ms : List Move)
       (rule : Each (Ended Cut top) (run (fresh u) ms .snd .frames)) where
     abbrev y : System
@@ -503,9 +485,7 @@ module _ (u : Setup) (p : Premises u) where
     track-fresh =
         let s : Send = send.newSend (u .sendRoom) (u .sendLimit) in
         let r : Recv = recv.newRecv (u .recvRoom) (u .recvLimit) (u .maxWindow) in
-        let es : s ≡ sender (fresh u .snd) = sym (ap sendView fine-send ∙ view-of s) in
-        let er : r ≡ receiver (fresh u .rcv) = sym (ap recvView fine-recv ∙ view-buf r) in
-        subst₂ (λ (s : Send) (r : Recv). Links Cut top (u .recvRoom) s [] r []) es er record {
+        subst₂ (λ (s : Send) (r : Recv). Links Cut top (u .recvRoom) s [] r []) (sym (sender-is u p)) (sym (receiver-is u p)) record {
           poised = poised-new Cut (u .sendRoom) (u .sendLimit);
           tidy = record { edges = tt; stands = inl zero-cut };
           room = refl;
@@ -592,9 +572,6 @@ pub record Stuck (x x′ : RecvEnd) : Type 0 where
   pub same-off : receiver x′ .off ≡ receiver x .off
   pub same-out : x′ .out ≡ x .out
 
-not-done : {A : Type 0} {said : Answer} {why : Refusal} → said ≡ Done → said ≡ Refused why → A
-not-done d e = let z : _≡_ {A = ℕ} 0 1 = cc (d, e) in absurd (omega arith)
-
 abbrev Kept : RecvEnd → Recv → Type 0
 Kept x r = Stalled r × (r .chunks ≡ receiver x .chunks) × (r .off ≡ receiver x .off)
 
@@ -622,7 +599,7 @@ module _ (x : RecvEnd) (g : Stalled (receiver x)) where
   stuck-reads out =
       let h = stalled-emit (receiver x) (length out) g in
       stuck (reads x out)
-      (reads-elim (Kept x) x out (λ e. not-done e (h .0)) (subst (Kept x) (sym (h .1)) (g, refl, refl)) (g, refl, refl))
+      (reads-elim (Kept x) x out (λ e. not-both _ NothingReady e (h .0)) (subst (Kept x) (sym (h .1)) (g, refl, refl)) (g, refl, refl))
       (ap (λ (k : ℕ). x .out ++ take k (recv.emittedOut (receiver x) (x .arena) out)) (read-none out) ∙ append-nil (x .out))
 
   kept-flow : (w : FlowControl) → Kept x (recv.withFlow (receiver x) w)

@@ -22,7 +22,8 @@ use Rattle.send_buf.specs.declared.EmitOutcome.{EmitOutcome}
 use Rattle.send_buf.specs.State.{Send, viewOf, bufOf, base, GoodSend}
 use Rattle.send_buf.specs.Rules as send
 use Rattle.send_buf.proofs.Views.{view-of}
-use Rattle.send_buf.proofs.Judged.{after-elim, Writes, writes as writes-told}
+use Rattle.refusal.proofs.Answers.{after-elim}
+use Rattle.send_buf.proofs.Judged.{Writes, writes as writes-told}
 use Rattle.send_buf.proofs.Chunks.{adj-le, adj-base, adj-append, adj-cut, adj-behind, adj-back, base-sent}
 use Rattle.send_buf.proofs.Facts.{skip-nothing, front-low, reached, emit-gives}
 use Rattle.send_buf.proofs.Kept.{new-good, wrote-good, sent-good, acked-good, dropped-good, dropTo-in, lost-good, raised-good}

@@ -1,4 +1,5 @@
--- Every chunk that came from creation or a call is good, whatever the numbers; a refused creation's too. Assumes nothing.
+-- Every chunk that came from creation or a call is good, whatever the numbers; a refused creation's too. And `consumed-in`: what a consume of no
+-- more than remains gives. Assumes nothing.
 use mathlib.Core.Path.{_≡_}
 use Prim.Native.Nat.{ℕ, _+_, _≤_}
 use native.Mathlib.Omega.{arith}

@@ -1,4 +1,4 @@
--- A refusal goes up under its own number: what an answer says of the tests behind it. Assumes nothing.
+-- Creation, reset and shutdown by their judgement, where a refusal of a lower module goes up under its own number. Assumes nothing.
 use mathlib.Core.Path.{_≡_, sym, ap, _∙_}
 use mathlib.Core.Bool.{Bool, true, false, cond}
 use mathlib.Core.List.{[]}
