@@ -1,6 +1,6 @@
 -- The arena after a frame: the bytes that are new are kept run by run. Assumes nothing.
 use mathlib.Core.Path.{_≡_, refl, sym, ap, _∙_}
-use mathlib.Core.Bool.{Bool, true, false, not, _&&_, _||_}
+use mathlib.Core.Bool.{Bool, true, false, not, _&&_, _||_, and-false}
 use mathlib.Core.List.{List, [], _∷_}
 use Prim.Native.Nat.{ℕ, zero, suc, _+_, _-_, _%_, _≤_, _<_, min, max}
 use native.Mathlib.Nat.{add-zero}
@@ -19,7 +19,6 @@ use Rattle.recv_buf.specs.State.{Recv, viewOf, Chain, Good}
 use Rattle.recv_buf.specs.Rules.{holds, keptNew}
 use Rattle.recv_buf.proofs.Good.{next, done, chain-at}
 use Rattle.recv_buf.proofs.Lists.{held-not, chain-held}
-use Rattle.tables.proofs.Tests.{and-never}
 
 -- the byte of offset q is new
 abbrev pub isNew : Recv → ℕ → Bool
@@ -148,7 +147,7 @@ module _ (b : RecvBuf) (g : Good b) (s : ℕ) (input ar₀ : List ℕ) where
           sym (new-skip (viewOf b) ar′ (max lo hi) (max lo (end c) - max lo hi) (drop (max lo hi - s) input)
           (λ q y z.
           let w : holds (viewOf b .chunks) q ≡ true = f .others q (omega arith) ∙ ap (λ (l : List RangeBuf). holds l q) x ∙ holds-in c cs q (omega arith) (below-end lo hi (end c) q y z (omega arith)) in
-          rw w (and-never (leb (b .off) q)))
+          rw w (and-false (leb (b .off) q)))
           ∙ rw (e, drop-drop (max lo (end c) - max lo hi) (max lo hi - s) input, d))) in
           record {
             low = omega (arith, lt);

@@ -5,7 +5,7 @@
 --   what is accepted breaks no rule                                                                   lawful-write, lawful-reset
 use mathlib.Core.Path.{_≡_, refl, sym, ap, _∙_}
 use mathlib.Core.Logic.{_⊎_, inl, inr, _↔_}
-use mathlib.Core.Bool.{Bool, true, false, cond, not, _&&_, _||_}
+use mathlib.Core.Bool.{Bool, true, false, cond, not, _&&_, _||_, and-false}
 use mathlib.Core.List.{List}
 use Prim.Native.Nat.{ℕ, _+_, _-_, _≤_, _<_}
 use native.Mathlib.Omega.{arith}
@@ -28,7 +28,7 @@ use Rattle.flowcontrol.proofs.Steady.{Steady}
 use Rattle.recv_buf.proofs.Kept.{end-fits, accepted}
 use Rattle.recv_buf.proofs.RfcLaws.{over-limit, limit-over, past-final}
 use Rattle.recv_buf.proofs.RfcState.{knows, Sound}
-use Rattle.tables.proofs.Tests.{either, clash, and-true, and-never, or-true, or-false, decided, undecided}
+use Rattle.tables.proofs.Tests.{either, clash, and-true, or-true, or-false, decided, undecided}
 use Rattle.refusal.proofs.Chain.{passes}
 use Rattle.refusal.proofs.Answers.{known-not}
 
@@ -235,7 +235,7 @@ module _ (r : Recv) (ar out : List ℕ) (g : Sound r ar out) (st : Steady (r .fl
   roomy l b = go (r .drain) refl (r .error) refl
     where
       fits : s + length bytes ≤ r .off + r .room → (d : Bool) → (not d && (ltb 0 (length bytes) && ltb (r .room) (s + length bytes - r .off))) ≡ false
-      fits h d = rw (le-ltb (r .room) (s + length bytes - r .off) (omega arith)) (rw (and-never (ltb 0 (length bytes)), and-never (not d)))
+      fits h d = rw (le-ltb (r .room) (s + length bytes - r .off) (omega arith)) (rw (and-false (ltb 0 (length bytes)), and-false (not d)))
 
       go : (d : Bool) → r .drain ≡ d → (z : OptionU64) → r .error ≡ z → noRoom r s (length bytes) ≡ false
       go true e z y = rw e

@@ -1,6 +1,6 @@
 -- What a frame does, by its judgement. Assumes nothing.
 use mathlib.Core.Path.{_≡_, refl, sym, ap, _∙_}
-use mathlib.Core.Bool.{Bool, true, false, cond, not, _&&_}
+use mathlib.Core.Bool.{Bool, true, false, cond, not, _&&_, and-false}
 use mathlib.Core.List.{List, [], _∷_}
 use Prim.Native.Nat.{ℕ, _+_, _-_, _≤_, _<_, max}
 use native.Mathlib.Omega.{arith}
@@ -22,7 +22,7 @@ use Rattle.recv_buf.specs.Rules.{otherArena, passesFinal, noRoom, noEntr
 use Rattle.recv_buf.specs.Steps.{listed, movedTo, frameJudged}
 use Rattle.recv_buf.proofs.Pushing.{made-of}
 use Rattle.recv_buf.proofs.Judging.{first-refused}
-use Rattle.tables.proofs.Tests.{and-never, decided, undecided}
+use Rattle.tables.proofs.Tests.{decided, undecided}
 use Rattle.refusal.proofs.Chain.{passes}
 
 -- ---- the last refusal comes behind the others
@@ -87,7 +87,7 @@ nothing-same r s n true e =
     by-test (eqb n 0) (λ y. let h : false ≡ true = rw y at e in let z : _≡_ {A = ℕ} 0 1 = cc in absurd (omega arith))
     (λ y. let h : false ≡ true = rw y at e in let z : _≡_ {A = ℕ} 0 1 = cc in absurd (omega arith))
 nothing-same r s n false e =
-    by-test (eqb n 0) (λ y. (eqb-true n 0 y, rw y (undecided (and-never (not (known (r .fin)))) (markedAt (r .chunks) s) (r .chunks))))
+    by-test (eqb n 0) (λ y. (eqb-true n 0 y, rw y (undecided (and-false (not (known (r .fin)))) (markedAt (r .chunks) s) (r .chunks))))
     (λ y. let h : false ≡ true = rw y at e in let z : _≡_ {A = ℕ} 0 1 = cc in absurd (omega arith))
 
 no-bytes : (r : Recv) (ar : List ℕ) (s : ℕ) (bytes : List ℕ) → length bytes ≡ 0 → keptNew r ar s bytes ≡ ar
@@ -117,7 +117,7 @@ module _ (b : RecvBuf) (g : Good b) (ar : List ℕ) (s : ℕ) (bytes : List ℕ)
     write-nothing e =
         let same = nothing-same (viewOf b) s (length bytes) fin e in
         let few : ltb 64 (length (chunksAfter (viewOf b) s (length bytes) fin)) ≡ false = ap (λ (l : List RangeBuf). ltb 64 (length l)) (same .1) ∙ le-ltb 64 (length (viewOf b .chunks)) (g .facts .few) in
-        let w : writeJudged (viewOf b) (length ar) s (length bytes) fin ≡ Done = judged ∙ rw few (undecided (and-never (not (b .drain))) _ _) in
+        let w : writeJudged (viewOf b) (length ar) s (length bytes) fin ≡ Done = judged ∙ rw few (undecided (and-false (not (b .drain))) _ _) in
         (rw (w, e) (λ j. record { answer = Done; buf = g .whole j }), rw w (same-either (b .drain) _ _ (no-bytes (viewOf b) ar s bytes (same .0))))
 
     module _ (some : (eqb (length bytes) 0 && not fin) ≡ false) where

@@ -20,10 +20,6 @@ pub and-false : (a b : Bool) → (a && b) ≡ false → (a ≡ false) ⊎ (b ≡
 and-false true b e = inr e
 and-false false b e = inl refl
 
-pub and-never : (a : Bool) → (a && false) ≡ false
-and-never true = refl
-and-never false = refl
-
 pub or-true : (a b : Bool) → (a || b) ≡ true → (a ≡ true) ⊎ (b ≡ true)
 or-true true b e = inl refl
 or-true false b e = inr e
