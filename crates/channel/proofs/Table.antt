@@ -15,7 +15,7 @@ use lib.Dec.{ltb, eqb}
 use lib.ListN.{length}
 use borrow.Author.Tests.{ltb-true, eqb-true, eqb-false, le-ltb}
 use Rattle.tables.proofs.Tables.{cases, cond-elim}
-use Rattle.refusal.specs.Rules.{M, known}
+use Rattle.refusal.specs.Rules.{M, numberOf, known}
 use Rattle.refusal.specs.declared.Refusal.{Refusal}
 use Rattle.refusal.specs.declared.Refusal.the-variants.{Offset, FinalSize, FlowControl as OverLimit, NoRoom, TableFull, Done as NothingReady, BadSetup}
 use Rattle.refusal.specs.declared.Answer.{Answer}
@@ -108,44 +108,37 @@ module _ (Cut : ℕ → Type 0) (L top : ℕ) (grid : Grid Cut L top) (r : Recv)
 
 -- ---- in terms of the answers
 
--- what a refusal tells: the tests before it failed
-refused-later : (t : Bool) (why other : Refusal) (rest : Answer) → (why ≡ other → ⊥) → cond t (Refused why) rest ≡ Refused other → (t ≡ false) × (rest ≡ Refused other)
-refused-later true why other rest ne e = let w : why ≡ other = cc in absurd (ne w)
+-- what a refusal tells: the tests of others before it failed, and its own holds
+refused-later : (t : Bool) (why other : Refusal) (rest : Answer) → (numberOf why ≡ numberOf other → ⊥) → cond t (Refused why) rest ≡ Refused other
+    → (t ≡ false) × (rest ≡ Refused other)
+refused-later true why other rest ne e = let w : why ≡ other = cc in absurd (ne (ap numberOf w))
 refused-later false why other rest ne e = (refl, e)
 
-refused-here : (t : Bool) (why : Refusal) → cond t (Refused why) Done ≡ Refused why → t ≡ true
-refused-here true why e = refl
-refused-here false why e = let z : _≡_ {A = ℕ} 0 1 = cc in absurd (omega arith)
-
-refused-first : (t u : Bool) (why other : Refusal) → (other ≡ why → ⊥) → cond t (Refused why) (cond u (Refused other) Done) ≡ Refused why → t ≡ true
-refused-first true u why other ne e = refl
-refused-first false true why other ne e = let w : other ≡ why = cc in absurd (ne w)
-refused-first false false why other ne e = let z : _≡_ {A = ℕ} 0 1 = cc in absurd (omega arith)
-
-no : {A : Type 0} → _≡_ {A = ℕ} 0 1 → A
-no z = absurd (omega arith)
+refused-here : (t u : Bool) (why other : Refusal) → (numberOf other ≡ numberOf why → ⊥) → cond t (Refused why) (cond u (Refused other) Done) ≡ Refused why → t ≡ true
+refused-here true u why other ne e = refl
+refused-here false true why other ne e = let w : other ≡ why = cc in absurd (ne (ap numberOf w))
+refused-here false false why other ne e = let z : _≡_ {A = ℕ} 0 1 = cc in absurd (omega arith)
 
 module _ (r : Recv) (a s n : ℕ) (fin : Bool) where
-  -- a frame is answered TableFull only if it passed the tests before, and the table is over
+  -- a frame is answered NoRoom or TableFull, 5 or 6, only if it passed the tests before
+  late : (why : Refusal) → 4 < numberOf why → numberOf why < 7 → writeJudged r a s n fin ≡ Refused why
+      → (passesFinal (r .fin) (r .len) (s + n) fin ≡ false) × (cond (noRoom r s n) (Refused NoRoom) (cond (noEntry r s n fin) (Refused TableFull) Done) ≡ Refused why)
+  unfolding writeJudged
+  late why l h e =
+      let e₁ = refused-later (otherArena r a) BadSetup why _ (λ p. omega arith) e in
+      let e₂ = refused-later (ltb M (s + n)) Offset why _ (λ p. omega arith) (e₁ .1) in
+      let e₃ = refused-later (ltb (r .flow .«max_data») (s + n)) OverLimit why _ (λ p. omega arith) (e₂ .1) in
+      refused-later (passesFinal (r .fin) (r .len) (s + n) fin) FinalSize why _ (λ p. omega arith) (e₃ .1)
+
   answered-full : writeJudged r a s n fin ≡ Refused TableFull
       → (passesFinal (r .fin) (r .len) (s + n) fin ≡ false) × (noRoom r s n ≡ false) × (noEntry r s n fin ≡ true)
-  unfolding writeJudged
   answered-full e =
-      let e₁ = refused-later (otherArena r a) BadSetup TableFull _ (λ e. let z : _≡_ {A = ℕ} 0 1 = cc in no z) e in
-      let e₂ = refused-later (ltb M (s + n)) Offset TableFull _ (λ e. let z : _≡_ {A = ℕ} 0 1 = cc in no z) (e₁ .1) in
-      let e₃ = refused-later (ltb (r .flow .«max_data») (s + n)) OverLimit TableFull _ (λ e. let z : _≡_ {A = ℕ} 0 1 = cc in no z) (e₂ .1) in
-      let e₄ = refused-later (passesFinal (r .fin) (r .len) (s + n) fin) FinalSize TableFull _ (λ e. let z : _≡_ {A = ℕ} 0 1 = cc in no z) (e₃ .1) in
-      let e₅ = refused-later (noRoom r s n) NoRoom TableFull _ (λ e. let z : _≡_ {A = ℕ} 0 1 = cc in no z) (e₄ .1) in
-      (e₄ .0, e₅ .0, refused-here (noEntry r s n fin) TableFull (e₅ .1))
+      let p = late TableFull (omega arith) (omega arith) e in
+      let q = refused-later (noRoom r s n) NoRoom TableFull _ (λ p. omega arith) (p .1) in
+      (p .0, q .0, refused-here (noEntry r s n fin) false TableFull NoRoom (λ p. omega arith) (q .1))
 
   answered-room : writeJudged r a s n fin ≡ Refused NoRoom → noRoom r s n ≡ true
-  unfolding writeJudged
-  answered-room e =
-      let e₁ = refused-later (otherArena r a) BadSetup NoRoom _ (λ e. let z : _≡_ {A = ℕ} 0 1 = cc in no z) e in
-      let e₂ = refused-later (ltb M (s + n)) Offset NoRoom _ (λ e. let z : _≡_ {A = ℕ} 0 1 = cc in no z) (e₁ .1) in
-      let e₃ = refused-later (ltb (r .flow .«max_data») (s + n)) OverLimit NoRoom _ (λ e. let z : _≡_ {A = ℕ} 0 1 = cc in no z) (e₂ .1) in
-      let e₄ = refused-later (passesFinal (r .fin) (r .len) (s + n) fin) FinalSize NoRoom _ (λ e. let z : _≡_ {A = ℕ} 0 1 = cc in no z) (e₃ .1) in
-      refused-first (noRoom r s n) (noEntry r s n fin) NoRoom TableFull (λ e. let z : _≡_ {A = ℕ} 0 1 = cc in no z) (e₄ .1)
+  answered-room e = refused-here (noRoom r s n) (noEntry r s n fin) NoRoom TableFull (λ p. omega arith) (late NoRoom (omega arith) (omega arith) e .1)
 
   -- a frame at or below off that is no longer than A always fits the arena
   pub fits-at-off : s ≤ r .off → n ≤ r .room → writeJudged r a s n fin ≡ Refused NoRoom → ⊥

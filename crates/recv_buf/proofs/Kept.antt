@@ -9,7 +9,7 @@ use native.Mathlib.Nat.{add-zero}
 use native.Mathlib.Omega.{arith}
 use lib.Dec.{ltb, eqb}
 use lib.ListN.{length}
-use borrow.Author.Tests.{ltb-false, eqb-true, eqb-false, not-false}
+use borrow.Author.Tests.{ltb-false, eqb-true, not-false}
 use Rattle.tables.proofs.Tables.{cond-elim}
 use Rattle.refusal.specs.Rules.{M, known, finWith}
 use Rattle.refusal.specs.declared.Answer.the-variants.{Done, Refused}
@@ -26,6 +26,7 @@ use Rattle.recv_buf.specs.State.{Recv, Chain, Within, Held, GoodRecv, Go
 use Rattle.recv_buf.specs.Rules.{otherArena, isReady, withChunks, withEnds, withFlow, withClosed, newRecv, badNumbers, created, passesFinal, noRoom, chunksAfter, noEntry, writeJudged, wrote, written, takes, leftOver, unlessReset, takeJudged, tookOut, refusedTake, discarded, emitted, resetJudged, wasReset, resets, shuts, commits, autotunes, flowBack}
 use Rattle.recv_buf.proofs.Lists.{within-weaken, filled-chain, filled-within, marked-chain, marked-within, left-chain, left-within, left-held, left-length, taken-within}
 use Rattle.recv_buf.proofs.Frames.{after-held}
+use Rattle.arena.proofs.Places.{right-arena}
 use Rattle.flowcontrol.proofs.Kept.{fresh-good, consumed-good, committed-good, autotuned-good}
 use Rattle.recv_buf.proofs.Good.{good-buf as good-of}
 use Rattle.tables.proofs.Tests.{either, clash, and-true, and-false, or-false}
@@ -99,12 +100,6 @@ pub record Accepted (r : Recv) (a s n : ℕ) (fin : Bool) : Type 0 where
   pub room : noRoom r s n ≡ false
   pub entry : noEntry r s n fin ≡ false
 
-pub right-arena : (r : Recv) (a : ℕ) → otherArena r a ≡ false → (0 < a) × (a ≡ r .room)
-right-arena r a e =
-    let p = or-false (eqb a 0) (not (eqb a (r .room))) e in
-    let z : a ≡ 0 → ⊥ = eqb-false a 0 (p .0) in
-    (omega arith, eqb-true a (r .room) (not-false (eqb a (r .room)) (p .1)))
-
 pub accepted : (r : Recv) (a s n : ℕ) (fin : Bool) → writeJudged r a s n fin ≡ Done → Accepted r a s n fin
 unfolding writeJudged
 accepted r a s n fin e =
@@ -114,8 +109,8 @@ accepted r a s n fin e =
     let e₄ = passes (passesFinal (r .fin) (r .len) (s + n) fin) FinalSize _ (e₃ .1) in
     let e₅ = passes (noRoom r s n) NoRoom _ (e₄ .1) in
     let e₆ = passes (noEntry r s n fin) TableFull _ (e₅ .1) in record {
-      some-room = right-arena r a (e₁ .0) .0;
-      size = right-arena r a (e₁ .0) .1;
+      some-room = right-arena (r .room) a (e₁ .0) .0;
+      size = right-arena (r .room) a (e₁ .0) .1;
       top = ltb-false M (s + n) (e₂ .0);
       credit = ltb-false (r .flow .«max_data») (s + n) (e₃ .0);
       final = e₄ .0;

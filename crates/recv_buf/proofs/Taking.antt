@@ -99,24 +99,26 @@ module _ (b : RecvBuf) (g : Good b) (n : ℕ) where
         (ap (λ (l : List RangeBuf). leftOver l (b .off + went) (n - went)) d ∙ sym d)
 
     module _ (lt : i < b .count) where
-      -- a hole before the next chunk
+      -- nothing of the next chunk goes: there is a hole before it, or no room was left when it was reached
+      stays : taken (getD (b .«data») i zeroBuf ∷ drop (i + 1) (viewOf b .chunks)) (b .off + went) (n - went) ≡ 0
+          → leftOver (getD (b .«data») i zeroBuf ∷ drop (i + 1) (viewOf b .chunks)) (b .off + went) (n - went) ≡ getD (b .«data») i zeroBuf ∷ drop (i + 1) (viewOf b .chunks)
+          → Reached b n (record { bytes = went; whole = i; part = 0 })
+      stays k l =
+          let x = next b g i lt in
+          stops (ap (λ (l : List RangeBuf). taken l (b .off + went) (n - went)) x ∙ k) (ap (λ (l : List RangeBuf). leftOver l (b .off + went) (n - went)) x ∙ l ∙ sym x)
+
       pub takes-apart : (start (getD (b .«data») i zeroBuf) ≡ b .off + went → ⊥) → Reached b n (record { bytes = went; whole = i; part = 0 })
       takes-apart h =
-          let x = next b g i lt in
           let c = getD (b .«data») i zeroBuf in
           let cs = drop (i + 1) (viewOf b .chunks) in
-          stops (ap (λ (l : List RangeBuf). taken l (b .off + went) (n - went)) x ∙ taken-apart c cs (b .off + went) (n - went) h)
-          (ap (λ (l : List RangeBuf). leftOver l (b .off + went) (n - went)) x ∙ left-apart c cs (b .off + went) (n - went) h ∙ sym x)
+          stays (taken-apart c cs (b .off + went) (n - went) h) (left-apart c cs (b .off + went) (n - went) h)
 
       module _ (e : start (getD (b .«data») i zeroBuf) ≡ b .off + went) where
-        -- no room was left when the next chunk was reached
         pub takes-full : went ≡ n → Reached b n (record { bytes = went; whole = i; part = 0 })
         takes-full h =
-            let x = next b g i lt in
             let c = getD (b .«data») i zeroBuf in
             let cs = drop (i + 1) (viewOf b .chunks) in
-            stops (ap (λ (l : List RangeBuf). taken l (b .off + went) (n - went)) x ∙ taken-full c cs (b .off + went) (n - went) e (omega arith))
-            (ap (λ (l : List RangeBuf). leftOver l (b .off + went) (n - went)) x ∙ left-full c cs (b .off + went) (n - went) e (omega arith) ∙ sym x)
+            stays (taken-full c cs (b .off + went) (n - went) e (omega arith)) (left-full c cs (b .off + went) (n - went) e (omega arith))
 
         module _ (ne : went ≡ n → ⊥) where
           some : 0 < n - went

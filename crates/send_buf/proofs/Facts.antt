@@ -2,14 +2,14 @@
 -- Assumes nothing.
 use mathlib.Core.Path.{_≡_, refl, sym, ap, _∙_}
 use mathlib.Core.Logic.{_⊎_}
-use mathlib.Core.Bool.{Bool, true, false, cond, not}
+use mathlib.Core.Bool.{Bool, true, false, cond}
 use mathlib.Core.List.{List, [], _∷_}
 use Prim.Native.Nat.{ℕ, _+_, _-_, _%_, _≤_, _<_, min}
 use native.Mathlib.Omega.{arith}
-use lib.Dec.{ltb, leb, eqb}
+use lib.Dec.{ltb, leb}
 use lib.ListN.{length, take, drop, getD, length-append, length-take, length-drop}
 use lib.Seq.{take-at, drop-at}
-use borrow.Author.Tests.{leb-true, ltb-false, eqb-true, eqb-false, not-false}
+use borrow.Author.Tests.{leb-true, ltb-false}
 use Rattle.refusal.specs.Rules.{M, withCount, after, known}
 use Rattle.refusal.specs.declared.Refusal.{Refusal}
 use Rattle.refusal.specs.declared.Answer.{Answer}
@@ -19,6 +19,7 @@ use Rattle.refusal.specs.declared.EmitAnswer.the-variants.{Refused as NoBytes}
 use Rattle.refusal.specs.declared.SizesAnswer.the-variants.{Refused as NoSizes}
 use Rattle.refusal.proofs.Answers.{after-elim}
 use Rattle.arena.specs.Rules.{held}
+use Rattle.arena.proofs.Places.{right-arena}
 use Rattle.arena.proofs.Laws.{length-kept, length-held, kept-elsewhere, held-before, held-kept}
 use Rattle.ranges.specs.State.{upto}
 use Rattle.ranges.specs.Rules.{memberOf, placed}
@@ -33,7 +34,7 @@ use Rattle.send_buf.proofs.Chunks.{front-in, copied-in, copied-le, tota
 use Rattle.send_buf.proofs.Position.{copied-some, front-below}
 use Rattle.send_buf.proofs.Acked.{upto-weak, ack-upto, placed-new, placed-old, placed-only, placed-all}
 use Rattle.send_buf.proofs.Judged.{writes}
-use Rattle.tables.proofs.Tests.{decided, or-false}
+use Rattle.tables.proofs.Tests.{decided}
 
 module _ (s : Send) (g : GoodSend s) where
   -- contiguous ack never passes what was emitted, nor the end offset
@@ -216,14 +217,7 @@ length-written s ar input fin =
     (λ _. length-kept ar (s .off) (take (accepted s (length input)) input))
     refl
 
--- an arena that is accepted has bytes, as many as the one at creation
-pub right-arena : (s : Send) (a : ℕ) → otherArena s a ≡ false → (0 < a) × (a ≡ s .room)
-right-arena s a e =
-    let p = or-false (eqb a 0) (not (eqb a (s .room))) e in
-    let z : a ≡ 0 → ⊥ = eqb-false a 0 (p .0) in
-    (omega (arith, z), eqb-true a (s .room) (not-false (eqb a (s .room)) (p .1)))
-
--- so the bytes held stay, and an accepted write's follow them
+-- the bytes held stay, and an accepted write's follow them
 module _ (s : Send) (g : GoodSend s) (ar input : List ℕ) (fin : Bool) where
   pub write-held : (q n : ℕ) → base (s .chunks) (s .off) ≤ q → q + n ≤ s .off → held (writtenArena s ar input fin) q n ≡ held ar q n
   unfolding writtenArena
@@ -231,7 +225,7 @@ module _ (s : Send) (g : GoodSend s) (ar input : List ℕ) (fin : Bool) where
       after-elim (λ (x : List ℕ). held x q n ≡ held ar q n) (writeJudged s (length ar) (length input) fin)
       (λ e. let k : ℕ = accepted s (length input) in
       let w = writes s (length ar) (length input) fin e in
-      let r : length ar ≡ s .room = right-arena s (length ar) (w .arena) .1 in
+      let r : length ar ≡ s .room = right-arena (s .room) (length ar) (w .arena) .1 in
       held-before ar (s .off) (take k input) q n l
       (omega (arith, length-take k input, ltb-false (s .room) (k + (s .off - base (s .chunks) (s .off))) (w .room))))
       refl
@@ -242,7 +236,7 @@ module _ (s : Send) (g : GoodSend s) (ar input : List ℕ) (fin : Bool) where
   write-kept e =
       let k : ℕ = accepted s (length input) in
       let w = writes s (length ar) (length input) fin e in
-      let r : length ar ≡ s .room = right-arena s (length ar) (w .arena) .1 in
+      let r : length ar ≡ s .room = right-arena (s .room) (length ar) (w .arena) .1 in
       let n : length (take k input) ≡ k = omega (arith, length-take k input, skip-nothing s g (length input)) in
       let f : length (take k input) ≤ length ar = omega (arith, ltb-false (s .room) (k + (s .off - base (s .chunks) (s .off))) (w .room)) in
       rw e (rw n at (held-kept ar (s .off) (take k input) f))

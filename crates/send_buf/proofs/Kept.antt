@@ -74,7 +74,7 @@ fin-is (Some f) off n false b h x e =
     absurd (eqb-false (off + n) f r (omega (arith, ltb-false f (off + n) (p .0))))
 
 -- the chunks that k bytes are cut into adjoin those held
-laid : (s : Send) → GoodSend s → (k : ℕ) → Adjoin (base (s .chunks) (s .off)) (s .chunks ++ cut (pieces k) (s .off) k) (s .off + k)
+pub laid : (s : Send) → GoodSend s → (k : ℕ) → Adjoin (base (s .chunks) (s .off)) (s .chunks ++ cut (pieces k) (s .off) k) (s .off + k)
 laid s g k =
     adj-append (base (s .chunks) (s .off)) (s .chunks) (s .off) (cut (pieces k) (s .off) k) (s .off + k) (g .adjoin)
     (adj-cut (pieces k) (s .off) k (omega arith) (omega arith))
