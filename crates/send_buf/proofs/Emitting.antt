@@ -23,7 +23,7 @@ use lib.ListN.{drop, getD, length, length-append, length-drop, length-set, repli
 use lib.Seq.{drop-at, drop-cons, drop-drop, length-take-le, set-split, take-suc-set}
 use mathlib.Core.Bool.{Bool, _&&_, false, true}
 use mathlib.Core.List.{List, [], _++_, _∷_, append-assoc}
-use mathlib.Core.Path.{_∙_, _≡_, ap, refl, sym}
+use mathlib.Core.Path.{_∙_, _≡_, ap, refl, subst, sym}
 use native.Mathlib.Nat.{add-zero, zero-add}
 use native.Mathlib.Numerals.{add-one}
 use native.Mathlib.Omega.{arith}
@@ -195,9 +195,9 @@ module _ (ar out₀ : List ℕ) (b : SendBuf) (g : Good b) where
         }
 
       -- the chunk is used up
-      pub full : avail (used (getD (t .«data») i zeroBuf) k) ≤ 0
+      used-up : avail (used (getD (t .«data») i zeroBuf) k) ≤ 0
           → Emitting ar out₀ b (putMid done (length out - done) out last) (setTable t (set (t .«data») i (used (getD (t .«data») i zeroBuf) k)) (t .count)) (i + 1) (i + 1) (done + k)
-      full h =
+      used-up h =
           let c = getD (b .«data») i zeroBuf in
           let a : avail (used c k) ≤ 0 = rw (← entry-same) h in
           let w = chunk-in b g i low in
@@ -212,10 +212,10 @@ module _ (ar out₀ : List ℕ) (b : SendBuf) (g : Good b) where
           moved (i + 1) (omega arith) (rw (o, r)) (rw (o, r)) (omega (arith, f, f′))
 
       -- some of it is left: the output is full
-      pub part : 0 < avail (used (getD (t .«data») i zeroBuf) k)
+      some-left : 0 < avail (used (getD (t .«data») i zeroBuf) k)
           → Emitting ar out₀ b (putMid done (length out - done) out last) (setTable t (set (t .«data») i (used (getD (t .«data») i zeroBuf) k)) (t .count)) (i + 1) i (done + k)
           × (length out₀ - (done + k) ≡ 0)
-      part h =
+      some-left h =
           let c = getD (b .«data») i zeroBuf in
           let a : 0 < avail (used c k) = rw (← entry-same) h in
           let y = min-some k (length out₀ - done) (c .len) (c .pos) is′ a in
@@ -232,6 +232,22 @@ module _ (ar out₀ : List ℕ) (b : SendBuf) (g : Good b) where
                 (ap (λ (y : ℕ). i + y) (finished-none l x (length out₀ - (done + k)) z ∙ sym f)),
             z,
           )
+
+      -- the same of the chunk u that the code has then
+      module _ (u : RangeBuf) (e : u ≡ used (getD (t .«data») i zeroBuf) k) where
+        pub full : avail u ≤ 0 → Emitting ar out₀ b (putMid done (length out - done) out last) (setTable t (set (t .«data») i u) (t .count)) (i + 1) (i + 1) (done + k)
+        full = subst
+            (λ (v : RangeBuf). avail v ≤ 0 → Emitting ar out₀ b (putMid done (length out - done) out last) (setTable t (set (t .«data») i v) (t .count)) (i + 1) (i + 1) (done + k))
+            (sym e) used-up
+
+        pub part : 0 < avail u
+            → Emitting ar out₀ b (putMid done (length out - done) out last) (setTable t (set (t .«data») i u) (t .count)) (i + 1) i (done + k)
+            × (length out₀ - (done + k) ≡ 0)
+        part = subst
+            (λ (v : RangeBuf). 0 < avail v
+            → Emitting ar out₀ b (putMid done (length out - done) out last) (setTable t (set (t .«data») i v) (t .count)) (i + 1) i (done + k)
+            × (length out₀ - (done + k) ≡ 0))
+            (sym e) some-left
 
   -- ---- the ways out
 

@@ -23,6 +23,7 @@ use Rattle.arena.proofs.Places.{right-arena}
 use Rattle.arena.proofs.Laws.{length-kept, length-held, kept-elsewhere, held-before, held-kept}
 use Rattle.ranges.specs.State.{upto}
 use Rattle.ranges.specs.Rules.{memberOf, placed}
+use Rattle.ranges.proofs.Members.{placed-new, placed-old, placed-only}
 use Rattle.tables.proofs.Tables.{by-test, cond-elim}
 use Rattle.send_buf.specs.declared.SendBuf.{SendBuf}
 use Rattle.send_buf.specs.declared.Outcome.{Outcome}
@@ -32,7 +33,7 @@ use Rattle.send_buf.specs.State.{Send, viewOf, bufOf, base, GoodSend, Go
 use Rattle.send_buf.specs.Rules.{otherArena, ackOff, accepted, writeJudged, written, writtenArena, front, first, emitCount, sent, emitted, emittedOut, ackJudged, ackedMore, acks, dropBytes, dropped, ackDrops, settled, lossJudged, lost, lostBytes, retransmits, cutOff, unsent, stops, shuts, raised}
 use Rattle.send_buf.proofs.Chunks.{front-in, copied-in, copied-le, total-sent, total-behind}
 use Rattle.send_buf.proofs.Position.{copied-some, front-below}
-use Rattle.send_buf.proofs.Acked.{upto-weak, ack-upto, placed-new, placed-old, placed-only, placed-all}
+use Rattle.send_buf.proofs.Acked.{upto-weak, ack-upto, placed-all}
 use Rattle.send_buf.proofs.Judged.{writes}
 use Rattle.tables.proofs.Tests.{decided}
 
