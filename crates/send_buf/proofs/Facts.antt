@@ -140,65 +140,29 @@ pub record Keeps (b : SendBuf) : Type 0 where
   pub shutdown : (why : Refusal) → shuts (viewOf b) .answer ≡ NoSizes why → shuts (viewOf b) .buf ≡ b
   pub update-max-data : (limit : ℕ) (why : Refusal) → raised (viewOf b) limit .answer ≡ Refused why → raised (viewOf b) limit .buf ≡ b
 
-module _ (b : SendBuf) (g : Good b) where
-  write-refused : (ar input : List ℕ) (fin : Bool) (why : Refusal) → written (viewOf b) (length ar) (length input) fin .answer ≡ NoCount why
-      → (written (viewOf b) (length ar) (length input) fin .buf ≡ b) × (writtenArena (viewOf b) ar input fin ≡ ar)
-  unfolding written writtenArena
-  write-refused ar input fin why e = (
+pub refusal-keeps : (b : SendBuf) → Good b → Keeps b
+unfolding written writtenArena emitted emittedOut acks ackDrops retransmits stops shuts raised
+refusal-keeps b g = record {
+  write = λ ar input fin why e. (
     ap bufOf (counted (writeJudged (viewOf b) (length ar) (length input) fin) _ why _ (viewOf b) e) ∙ sym (g .whole),
     counted (writeJudged (viewOf b) (length ar) (length input) fin) _ why _ ar e,
-  )
-
-  emit-refused : (ar out : List ℕ) (why : Refusal) → emitted (viewOf b) (length ar) (length out) .answer ≡ NoBytes why
-      → (emitted (viewOf b) (length ar) (length out) .buf ≡ b) × (emittedOut (viewOf b) ar out ≡ out)
-  unfolding emitted emittedOut
-  emit-refused ar out why e =
-      let t : Bool = otherArena (viewOf b) (length ar) in
-      let h : t ≡ true = first-of (λ (o : EmitOutcome). o .answer) t _ _ (NoBytes why) (λ q. let z : _≡_ {A = ℕ} 0 1 = cc in omega arith) e in
-      (simp h (sym (g .whole)), simp h)
-
-  ack-refused : (a n : ℕ) (why : Refusal) → acks (viewOf b) a n .answer ≡ Refused why → acks (viewOf b) a n .buf ≡ b
-  unfolding acks
-  ack-refused a n why e = ap bufOf (plain (ackJudged (viewOf b) a n) why _ (viewOf b) e) ∙ sym (g .whole)
-
-  drop-refused : (a n : ℕ) (why : Refusal) → ackDrops (viewOf b) a n .answer ≡ NoCount why → ackDrops (viewOf b) a n .buf ≡ b
-  unfolding ackDrops
-  drop-refused a n why e = ap bufOf (counted (ackJudged (viewOf b) a n) _ why _ (viewOf b) e) ∙ sym (g .whole)
-
-  loss-refused : (a n : ℕ) (why : Refusal) → retransmits (viewOf b) a n .answer ≡ NoCount why → retransmits (viewOf b) a n .buf ≡ b
-  unfolding retransmits
-  loss-refused a n why e = ap bufOf (counted (lossJudged (viewOf b) a n) _ why _ (viewOf b) e) ∙ sym (g .whole)
-
-  stop-refused : (code : ℕ) (why : Refusal) → stops (viewOf b) code .answer ≡ NoSizes why → stops (viewOf b) code .buf ≡ b
-  unfolding stops
-  stop-refused code why e =
-      let t : Bool = known (b .error) in
-      let h : t ≡ true = first-of (λ (o : SizesOutcome). o .answer) t _ _ (NoSizes why) (λ q. let z : _≡_ {A = ℕ} 0 1 = cc in omega arith) e in
-      simp h (sym (g .whole))
-
-  shut-refused : (why : Refusal) → shuts (viewOf b) .answer ≡ NoSizes why → shuts (viewOf b) .buf ≡ b
-  unfolding shuts
-  shut-refused why e =
-      let h : b .shutdown ≡ true = first-of (λ (o : SizesOutcome). o .answer) (b .shutdown) _ _ (NoSizes why) (λ q. let z : _≡_ {A = ℕ} 0 1 = cc in omega arith) e in
-      ap (λ (o : SizesOutcome). o .buf) (decided h _ _) ∙ sym (g .whole)
-
-  limit-refused : (limit : ℕ) (why : Refusal) → raised (viewOf b) limit .answer ≡ Refused why → raised (viewOf b) limit .buf ≡ b
-  unfolding raised
-  limit-refused limit why e =
-      let h : ltb M limit ≡ true = first-of (λ (o : Outcome). o .answer) (ltb M limit) _ _ (Refused why) (λ q. let z : _≡_ {A = ℕ} 0 1 = cc in omega arith) e in
-      simp h (sym (g .whole))
-
-  pub refusal-keeps : Keeps b
-  refusal-keeps = record {
-    write = write-refused;
-    emit = emit-refused;
-    ack = ack-refused;
-    ack-and-drop = drop-refused;
-    retransmit = loss-refused;
-    stop = stop-refused;
-    shutdown = shut-refused;
-    update-max-data = limit-refused;
-  }
+  );
+  emit = λ ar out why e.
+      let h = first-of (λ (o : EmitOutcome). o .answer) (otherArena (viewOf b) (length ar)) _ _ (NoBytes why) (λ q. let z : _≡_ {A = ℕ} 0 1 = cc in omega arith) e in
+      (simp h (sym (g .whole)), simp h);
+  ack = λ a n why e. ap bufOf (plain (ackJudged (viewOf b) a n) why _ (viewOf b) e) ∙ sym (g .whole);
+  ack-and-drop = λ a n why e. ap bufOf (counted (ackJudged (viewOf b) a n) _ why _ (viewOf b) e) ∙ sym (g .whole);
+  retransmit = λ a n why e. ap bufOf (counted (lossJudged (viewOf b) a n) _ why _ (viewOf b) e) ∙ sym (g .whole);
+  stop = λ code why e.
+      let h = first-of (λ (o : SizesOutcome). o .answer) (known (b .error)) _ _ (NoSizes why) (λ q. let z : _≡_ {A = ℕ} 0 1 = cc in omega arith) e in
+      simp h (sym (g .whole));
+  shutdown = λ why e.
+      let h = first-of (λ (o : SizesOutcome). o .answer) (b .shutdown) _ _ (NoSizes why) (λ q. let z : _≡_ {A = ℕ} 0 1 = cc in omega arith) e in
+      ap (λ (o : SizesOutcome). o .buf) (decided h _ _) ∙ sym (g .whole);
+  update-max-data = λ limit why e.
+      let h = first-of (λ (o : Outcome). o .answer) (ltb M limit) _ _ (Refused why) (λ q. let z : _≡_ {A = ℕ} 0 1 = cc in omega arith) e in
+      simp h (sym (g .whole));
+}
 
 -- ---- which places a call writes
 
