@@ -175,6 +175,15 @@ windows =
     -- ensure_window_lower_bound: the window lowered; a bound above M let through
     ∷ (windowSaid (window.atLeast nine 8) never (0 ∷ 9 ∷ 16 ∷ 8 ∷ 24 ∷ []))
     ∷ (windowSaid (window.atLeast nine (M + 1)) never (0 ∷ 9 ∷ 16 ∷ 24 ∷ 24 ∷ []))
+    -- lent::consume: nothing stored; refused, and counted all the same
+    ∷ (windowSaid (window.consumedMore nine 2) never (0 ∷ 9 ∷ 16 ∷ 16 ∷ 24 ∷ []))
+    ∷ (windowSaid (window.consumedMore nine M) never (1 ∷ (M + 9) ∷ 16 ∷ 16 ∷ 24 ∷ []))
+    -- lent::commit, the answer first: the old limit answered; the new one answered and not stored
+    ∷ ((window.committed nine 100 .«max_data» ∷ flow (window.committed nine 100)) never (16 ∷ 9 ∷ 25 ∷ 16 ∷ 24 ∷ 100 ∷ []))
+    ∷ ((window.committed nine 100 .«max_data» ∷ flow (window.committed nine 100)) never (25 ∷ 9 ∷ 16 ∷ 16 ∷ 24 ∷ []))
+    -- lent::autotune, the answer first: the window before it answered; the new one answered and not stored
+    ∷ ((window.autotuned (window.committed nine 100) 119 10 .window ∷ flow (window.autotuned (window.committed nine 100) 119 10)) never (16 ∷ 9 ∷ 25 ∷ 24 ∷ 24 ∷ 100 ∷ []))
+    ∷ ((window.autotuned (window.committed nine 100) 119 10 .window ∷ flow (window.autotuned (window.committed nine 100) 119 10)) never (24 ∷ 9 ∷ 25 ∷ 16 ∷ 24 ∷ 100 ∷ []))
     ∷ []
 
 -- ---- ranges: 10..12 and 20..22, capacity 2
