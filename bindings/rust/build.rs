@@ -1,5 +1,5 @@
 //! Finds the static library of the proved crates, or has it made: VALEMKHOR_LIB names the folder that holds libstream_c.a; without it the
-//! library is proved and built in the tree that this crate stands in, by `rt staticlib stream_c`.
+//! library is proved and built in the tree that this crate stands in, by `rt staticlib stream_c`. It is x86-64 code.
 
 use std::path::Path;
 use std::path::PathBuf;
@@ -7,6 +7,9 @@ use std::process::Command;
 
 fn main() {
     println!("cargo:rerun-if-env-changed=VALEMKHOR_LIB");
+    if std::env::var("CARGO_CFG_TARGET_ARCH").as_deref() != Ok("x86_64") {
+        panic!("libstream_c.a is x86-64 code: build for that, as by `cargo test --target x86_64-unknown-linux-gnu`");
+    }
     let folder = match std::env::var_os("VALEMKHOR_LIB") {
         Some(folder) => PathBuf::from(folder),
         None => built(),

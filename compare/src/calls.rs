@@ -1,44 +1,10 @@
-//! What the comparison and the stored list share: the two programs, the words of a state, the rows of docs/DIFFERENCES.md, and the calls
-//! that are tried: small alphabets, and random calls around every boundary.
+//! The calls that are tried: every short sequence over small alphabets, and random ones around every boundary.
 
-use std::io::BufRead;
-use std::io::BufReader;
-use std::io::Write;
-use std::process::Child;
-use std::process::ChildStdin;
-use std::process::ChildStdout;
-use std::process::Command;
-use std::process::Stdio;
+use crate::rows::field;
+use crate::rows::ranges;
 
 pub const M: u64 = (1 << 62) - 1;
 pub const TOP: u64 = u64::MAX;
-
-/// One of the two programs, fed a line at a time.
-pub struct Side {
-    _child: Child,
-    to: ChildStdin,
-    from: BufReader<ChildStdout>,
-}
-
-impl Side {
-    pub fn start(path: &str) -> Side {
-        let mut child = Command::new(path)
-            .stdin(Stdio::piped())
-            .stdout(Stdio::piped())
-            .spawn()
-            .unwrap_or_else(|e| panic!("{path}: {e}"));
-        let (to, from) = (child.stdin.take().unwrap(), BufReader::new(child.stdout.take().unwrap()));
-        Side { _child: child, to, from }
-    }
-
-    pub fn ask(&mut self, line: &str) -> String {
-        self.to.write_all(line.as_bytes()).unwrap();
-        self.to.write_all(b"\n").unwrap();
-        let mut said = String::new();
-        self.from.read_line(&mut said).unwrap();
-        said.trim_end().to_string()
-    }
-}
 
 /// A small generator of numbers (xorshift), so that a seed gives the same run everywhere.
 pub struct Dice(pub u64);
@@ -76,94 +42,6 @@ impl Dice {
     }
 }
 
-/// A number of a state line: `off=12` of `.. off=12 ..`.
-pub fn field(state: &str, name: &str) -> Option<u64> {
-    state
-        .split(' ')
-        .find_map(|w| w.strip_prefix(name)?.strip_prefix('='))
-        .and_then(|v| v.parse().ok())
-}
-
-pub fn is_set(state: &str, name: &str) -> bool {
-    state.contains(&format!(" {name}=")) && !state.contains(&format!(" {name}=-"))
-}
-
-/// The ranges of a range set's state line; none of another object's.
-pub fn ranges(state: &str) -> Vec<(u64, u64)> {
-    let Some(inner) = state.strip_prefix('[').and_then(|s| s.strip_suffix(']')) else {
-        return Vec::new();
-    };
-    let pair = |w: &str| w.split_once('-').and_then(|(a, b)| Some((a.parse().ok()?, b.parse().ok()?)));
-    inner.split(',').filter_map(pair).collect()
-}
-
-/// What the comparison knows of quiche's range set that no answer shows: which of its two forms it has, and its capacity.
-#[derive(Default)]
-pub struct Form {
-    pub tree: bool,
-    pub capacity: u64,
-}
-
-impl Form {
-    /// What it is after a call that quiche made too, by the state that the call left.
-    pub fn step(&mut self, line: &str, after: &str) {
-        if let Some(capacity) = line.strip_prefix("rs.new ") {
-            *self = Form {
-                tree: false,
-                capacity: capacity.parse().unwrap_or(0),
-            };
-        } else if line.starts_with("rs.") {
-            let held = ranges(after).len();
-            self.tree = if self.tree { held > 2 } else { held == 4 };
-        }
-    }
-}
-
-/// The row of docs/DIFFERENCES.md that a call stands in, by the port's state before it and its answer; and whether the two
-/// objects are the same after it, so that the sequence can go on.
-pub fn row(line: &str, before: &str, said: &str, after: &str, form: &Form) -> Option<(&'static str, bool)> {
-    let words: Vec<&str> = line.split(' ').collect();
-    let n = |i: usize| words.get(i).and_then(|w| w.parse::<u64>().ok()).unwrap_or(0);
-    let (call, held) = (words[0], ranges(before));
-    let inserts = match call {
-        "rs.insert" => Some((n(1), n(2))),
-        "rs.push_item" => Some((n(1), n(1).saturating_add(1))),
-        _ => None,
-    };
-    if let Some((s, e)) = inserts {
-        let joins = held.iter().any(|r| r.0 <= e && s <= r.1);
-        let lowest = held.first().is_some_and(|r| e < r.0);
-        if !form.tree && !joins && lowest && held.len() as u64 == form.capacity {
-            return Some(("D-11 a full inline set given a lowest range", false));
-        }
-    }
-    match call {
-        "rs.remove_until" if form.tree && n(1) == TOP => Some(("D-10 remove_until(2^64 - 1)", false)),
-        "rs.remove_until" if !form.tree && ranges(after).first().is_some_and(|r| r.0 == r.1) => {
-            Some(("D-12 the inline form drops an empty first range", false))
-        }
-        "rs.last" if held.last().is_some_and(|r| r.1 == 0) => Some(("D-13 last of 0..0", true)),
-        "fc.should_update" | "r.get" if field(before, "consumed") > field(before, "limit") => {
-            Some(("D-20 consumed above the limit", true))
-        }
-        "r.reset" if said == "no 4" => Some(("D-30 a reset over the limit", true)),
-        "r.write" if said == "ok" && words[2] == "x" && words[3] == "0" && Some(n(1)) > field(before, "len") => {
-            Some(("D-31 a frame without bytes or mark ahead of len", true))
-        }
-        "r.reset"
-            if said.starts_with("ok") && is_set(before, "fin") && !is_set(before, "err") && field(before, "drain") == Some(0) =>
-        {
-            Some(("D-32 a first reset with F known", false))
-        }
-        _ => None,
-    }
-}
-
-/// A refusal that quiche does not have.
-pub fn added(said: &str) -> bool {
-    ["no 1", "no 5", "no 6", "no 7", "no 10"].contains(&said)
-}
-
 /// Small alphabets, and a first call for each: every sequence of up to `depth` calls is tried.
 pub fn alphabets() -> Vec<(&'static str, usize, Vec<&'static str>)> {
     vec![
@@ -186,7 +64,7 @@ pub fn alphabets() -> Vec<(&'static str, usize, Vec<&'static str>)> {
             ],
         ),
         (
-            "fc.new 16 16 24",
+            "fc.new 16 17 24",
             4,
             vec![
                 "fc.add_consumed 0",
@@ -224,7 +102,7 @@ pub fn alphabets() -> Vec<(&'static str, usize, Vec<&'static str>)> {
             ],
         ),
         (
-            "rs.new 6",
+            "rs.new 4",
             5,
             vec![
                 "rs.insert 0 0",
@@ -289,7 +167,7 @@ pub fn alphabets() -> Vec<(&'static str, usize, Vec<&'static str>)> {
     ]
 }
 
-pub fn bytes(dice: &mut Dice, n: u64) -> String {
+fn bytes(dice: &mut Dice, n: u64) -> String {
     if n == 0 {
         "x".into()
     } else {
@@ -297,150 +175,219 @@ pub fn bytes(dice: &mut Dice, n: u64) -> String {
     }
 }
 
-/// The next random call of an object, by the state that it is in.
-pub fn call(dice: &mut Dice, object: &str, state: &str) -> String {
+/// Mostly 0, now and then a number that no stream reaches.
+fn odd(dice: &mut Dice) -> u64 {
+    if dice.one_in(8) {
+        dice.pick(&[M, TOP])
+    } else {
+        0
+    }
+}
+
+fn chunk_call(dice: &mut Dice) -> String {
+    match dice.below(6) {
+        0 | 1 => format!("rb.consume {}", dice.near(&[0, 0, 1, 20, 40, TOP])),
+        2 | 3 => format!("rb.split {} {}", dice.near(&[0, 20, 40, TOP]), dice.pick(&["l", "r"])),
+        _ => dice.pick(&["rb.off", "rb.max_off", "rb.len", "rb.is_empty"]).into(),
+    }
+}
+
+fn window_call(dice: &mut Dice, state: &str) -> String {
+    let at = |name: &str| field(state, name).unwrap_or(0);
+    match dice.below(9) {
+        0 | 1 => format!("fc.add_consumed {}", dice.near(&[0, at("window") / 2, at("limit"), M, TOP])),
+        2 => format!("fc.commit {}", dice.near(&[0, 1000, TOP])),
+        3 | 4 => {
+            let rtt = dice.near(&[0, 10, 1 << 63, TOP]);
+            format!(
+                "fc.autotune {} {rtt}",
+                dice.near(&[0, at("last").saturating_add(rtt.saturating_mul(2)), at("last")])
+            )
+        }
+        5 => format!("fc.lower_bound {}", dice.near(&[0, at("window"), at("maximum"), M, TOP])),
+        _ => dice.pick(&["fc.should_update", "fc.next", "fc.window", "fc.max_data"]).into(),
+    }
+}
+
+fn set_call(dice: &mut Dice, state: &str) -> String {
+    let far = if dice.one_in(20) { TOP } else { 0 };
+    let start = dice.near(&[far, 0, 20, 60, 150]);
+    match dice.below(9) {
+        0 if dice.one_in(9) => format!("rs.insert {start} {}", start.saturating_sub(1)),
+        0..=3 => format!("rs.insert {start} {}", start.saturating_add(dice.pick(&[0, 0, 1, 2, 9, 40]))),
+        4 => format!("rs.push_item {start}"),
+        5 => format!("rs.remove_until {}", dice.near(&[far, 0, 5, 30, 150])),
+        6 => format!("rs.contains {start}"),
+        _ => {
+            let (s, e) = ranges(state).pop().unwrap_or((start, TOP));
+            dice.pick(&["rs.len".into(), "rs.last".into(), "rs.iter".into(), format!("rs.eq {s} {e}")])
+        }
+    }
+}
+
+fn send_call(dice: &mut Dice, state: &str) -> String {
     let at = |name: &str| field(state, name).unwrap_or(0);
     let mark = |dice: &mut Dice| if dice.one_in(7) { "1" } else { "0" };
-    match object {
-        "rb" => match dice.below(6) {
-            0 | 1 => format!("rb.consume {}", dice.near(&[0, 1, 40])),
-            2 | 3 => format!("rb.split {} {}", dice.near(&[0, 20, 40]), dice.pick(&["l", "r"])),
-            _ => dice.pick(&["rb.off", "rb.max_off", "rb.len", "rb.is_empty"]).into(),
-        },
-        "fc" => match dice.below(9) {
-            0 | 1 => format!("fc.add_consumed {}", dice.near(&[0, at("window") / 2, at("limit"), M])),
-            2 => format!("fc.commit {}", dice.near(&[0, 1000, TOP])),
-            3 | 4 => {
-                let rtt = dice.near(&[0, 10, 1 << 63, TOP]);
-                format!(
-                    "fc.autotune {} {rtt}",
-                    dice.near(&[0, at("last").saturating_add(rtt.saturating_mul(2)), at("last")])
-                )
-            }
-            5 => format!("fc.lower_bound {}", dice.near(&[0, at("window"), at("maximum"), M])),
-            _ => dice.pick(&["fc.should_update", "fc.next", "fc.window", "fc.max_data"]).into(),
-        },
-        "rs" => {
-            let far = if dice.one_in(20) { TOP } else { 0 };
-            let start = dice.near(&[far, 0, 20, 60, 150]);
-            match dice.below(9) {
-                0..=3 => format!("rs.insert {start} {}", start.saturating_add(dice.pick(&[0, 0, 1, 2, 9, 40]))),
-                4 => format!("rs.push_item {start}"),
-                5 => format!("rs.remove_until {}", dice.near(&[far, 0, 5, 30, 150])),
-                6 => format!("rs.contains {start}"),
-                _ => dice.pick(&["rs.len", "rs.last", "rs.iter", "rs.eq 0 20"]).into(),
-            }
+    match dice.below(20) {
+        0..=4 => {
+            let n = if dice.one_in(12) {
+                dice.near(&[4096, 8192, 65536])
+            } else {
+                dice.pick(&[0, 0, 1, 2, 3, 5, 9, 40])
+            };
+            format!("s.write {} {}", bytes(dice, n), mark(dice))
         }
-        "s" => match dice.below(20) {
-            0..=4 => {
-                let n = if dice.one_in(12) {
-                    dice.near(&[4096, 8192, 65536])
-                } else {
-                    dice.pick(&[0, 0, 1, 2, 3, 5, 9, 40])
-                };
-                format!("s.write {} {}", bytes(dice, n), mark(dice))
-            }
-            5..=9 => format!("s.emit {}", dice.pick(&[0, 1, 2, 3, 7, 20, 1200, 5000, 70000])),
-            10..=15 => {
-                let off = dice.near(&[0, 0, at("emitted") / 2, at("emitted")]);
-                let len = dice.near(&[0, 1, at("emitted").saturating_sub(off), at("emitted") / 3]);
-                format!(
-                    "s.{} {off} {len}",
-                    dice.pick(&["ack", "ack_and_drop", "ack_and_drop", "retransmit", "retransmit"])
-                )
-            }
-            16 => format!(
-                "s.update_max_data {}",
-                dice.near(&[at("limit"), at("limit").saturating_add(5000), M])
-            ),
-            17 if dice.one_in(6) => dice.pick(&["s.reset", "s.stop 7", "s.shutdown"]).into(),
-            18 => dice
-                .pick(&[
-                    "s.update_blocked_at -",
-                    "s.update_blocked_at 5",
-                    "s.ack 18446744073709551615 1",
-                    "s.write x 1 @7",
-                ])
-                .into(),
-            _ => "s.get".into(),
-        },
-        _ => match dice.below(20) {
-            0..=8 => {
-                let n = if dice.one_in(15) {
-                    dice.near(&[1200, 4096, 65536])
-                } else {
-                    dice.pick(&[0, 1, 2, 3, 5, 9, 40])
-                };
-                let ahead = at("off") + dice.below(30);
-                let off = dice.near(&[at("off"), at("len"), ahead, at("limit"), at("len") + 50]);
-                format!("r.write {off} {} {}", bytes(dice, n), mark(dice))
-            }
-            9..=12 => format!("r.emit {}", dice.pick(&[0, 1, 2, 3, 9, 50, 70000])),
-            13 => format!("r.discard {}", dice.pick(&[0, 1, 2, 30, TOP])),
-            14 => format!("r.commit {}", dice.below(1000)),
-            15 => format!("r.autotune {} {}", dice.below(1000), dice.pick(&[0, 1, 100, TOP])),
-            16 => format!("r.readable_len {}", dice.pick(&[0, 1, 5, TOP])),
-            17 if dice.one_in(5) => format!("r.reset 7 {}", dice.near(&[at("len"), at("limit")])),
-            18 if dice.one_in(8) => "r.shutdown".into(),
-            18 => dice
-                .pick(&[
-                    "r.fc.add_consumed 3",
-                    "r.fc.lower_bound 90",
-                    "r.write 18446744073709551615 x01 0",
-                    "r.emit 3 @9",
-                ])
-                .into(),
-            _ => "r.get".into(),
-        },
+        5..=9 => format!("s.emit {}", dice.pick(&[0, 1, 2, 3, 7, 20, 1200, 5000, 70000])),
+        10..=15 => {
+            let (far, long) = (odd(dice), odd(dice));
+            let off = dice.near(&[far, 0, at("emitted") / 2, at("emitted")]);
+            let len = dice.near(&[long, 1, at("emitted").saturating_sub(off), at("emitted") / 3]);
+            format!(
+                "s.{} {off} {len}",
+                dice.pick(&["ack", "ack_and_drop", "ack_and_drop", "retransmit", "retransmit"])
+            )
+        }
+        16 => format!(
+            "s.update_max_data {}",
+            dice.near(&[at("limit"), at("limit").saturating_add(5000), M, TOP])
+        ),
+        17 if dice.one_in(6) => dice
+            .pick(&["s.reset", "s.stop 0", "s.stop 18446744073709551615", "s.shutdown"])
+            .into(),
+        18 => dice
+            .pick(&[
+                "s.update_blocked_at -",
+                "s.update_blocked_at 18446744073709551615",
+                "s.write x 1",
+                "s.write x 1 @7",
+                "s.write x01 0 @0",
+                "s.emit 3 @7",
+            ])
+            .into(),
+        _ => "s.get".into(),
+    }
+}
+
+fn recv_call(dice: &mut Dice, state: &str) -> String {
+    let at = |name: &str| field(state, name).unwrap_or(0);
+    let mark = |dice: &mut Dice| if dice.one_in(7) { "1" } else { "0" };
+    match dice.below(20) {
+        0..=8 => {
+            let n = if dice.one_in(15) {
+                dice.near(&[1200, 4096, 65536])
+            } else {
+                dice.pick(&[0, 1, 2, 3, 5, 9, 40])
+            };
+            let ahead = at("off") + dice.below(30);
+            let off = dice.near(&[at("off"), at("len"), ahead, at("limit"), at("len") + 50]);
+            let off = if dice.one_in(60) { dice.near(&[M, TOP]) } else { off };
+            format!("r.write {off} {} {}", bytes(dice, n), mark(dice))
+        }
+        9..=12 => format!("r.emit {}", dice.pick(&[0, 1, 2, 3, 9, 50, 70000])),
+        13 => format!("r.discard {}", dice.pick(&[0, 1, 2, 30, M, TOP])),
+        14 => format!("r.commit {}", dice.near(&[0, 1000, TOP])),
+        15 => {
+            let rtt = dice.pick(&[0, 1, 100, TOP]);
+            let due = at("last").saturating_add(rtt.saturating_mul(2));
+            format!("r.autotune {} {rtt}", dice.near(&[0, 1000, at("last"), due]))
+        }
+        16 => format!("r.readable_len {}", dice.pick(&[0, 1, 5, TOP])),
+        17 if dice.one_in(5) => {
+            let far = odd(dice);
+            format!(
+                "r.reset {} {}",
+                dice.pick(&[0, 7, TOP]),
+                dice.near(&[at("len"), at("len"), at("limit"), far])
+            )
+        }
+        18 if dice.one_in(8) => "r.shutdown".into(),
+        18 if dice.one_in(3) => format!("r.fc.lower_bound {}", dice.near(&[90, at("maximum"), M, TOP])),
+        18 if dice.one_in(9) => format!("r.fc.add_consumed {}", dice.near(&[3, M - at("consumed").min(M)])),
+        18 => dice.pick(&["r.emit 3 @9", "r.write 0 x01 0 @9", "r.write 0 x 1 @0"]).into(),
+        _ => "r.get".into(),
+    }
+}
+
+/// The next random call of an object, by the state that it is in.
+pub fn call(dice: &mut Dice, object: &str, state: &str) -> String {
+    match object {
+        "rb" => chunk_call(dice),
+        "fc" => window_call(dice, state),
+        "rs" => set_call(dice, state),
+        "s" => send_call(dice, state),
+        _ => recv_call(dice, state),
     }
 }
 
 /// The next call of a sequence that fills the tables of 64: many short chunks, many separate ranges.
 pub fn crowding(dice: &mut Dice, object: &str, state: &str) -> String {
     let at = |name: &str| field(state, name).unwrap_or(0);
+    let full = state.matches('~').count() == 64 && !dice.one_in(4);
     match (object, dice.below(10)) {
-        ("s", 0) => format!("s.write {} 0", bytes(dice, 200)),
-        ("s", 1..=4) => format!("s.write {} 0", bytes(dice, 1)),
+        ("s", 0) => {
+            let n = if dice.one_in(4) { dice.near(&[4096, 8192]) } else { 200 };
+            format!("s.write {} 0", bytes(dice, n))
+        }
+        ("s", 1..=4) if !full => format!("s.write {} 0", bytes(dice, 1)),
         ("s", 5) => format!("s.emit {}", dice.pick(&[1, 2, 200])),
-        ("s", 6..=8) => format!(
+        ("s", 1..=8) => format!(
             "s.{} {} 1",
             dice.pick(&["ack", "ack", "ack_and_drop", "retransmit"]),
             2 * dice.below(at("emitted") / 2 + 1)
         ),
         ("r", 0..=7) => format!("r.write {} {} 0", at("off") + 1 + 2 * dice.below(70), bytes(dice, 1)),
-        ("r", 8) => format!(
-            "r.write {} {} {}",
-            at("off") + dice.below(140),
-            bytes(dice, 30),
-            dice.pick(&["0", "0", "1"])
-        ),
+        ("r", 8) if dice.one_in(3) => format!("r.write {} x 1", at("len") + dice.below(3)),
+        ("r", 8) => {
+            let (n, ahead) = (dice.pick(&[1, 2, 30]), dice.below(140));
+            let off = dice.pick(&[at("off") + ahead, at("fin").saturating_sub(n)]);
+            format!("r.write {off} {} {}", bytes(dice, n), dice.pick(&["0", "0", "1"]))
+        }
         ("rs", 0..=7) => {
-            let start = 3 * dice.below(80);
+            let start = 3 * dice.below(200);
             format!("rs.insert {start} {}", start + dice.below(2))
         }
         _ => call(dice, object, state),
     }
 }
 
+/// The next call of a sequence in which the stream moves on, so that the arena goes round: bytes are written, sent and acked, or
+/// come and are handed out.
+pub fn flowing(dice: &mut Dice, object: &str, state: &str) -> String {
+    let at = |name: &str| field(state, name).unwrap_or(0);
+    let n = dice.pick(&[1, 2, 3, 7, 30, 100, 1200, 5000, 30000]);
+    match (object, dice.below(9)) {
+        ("s", 0..=2) => format!("s.write {} 0", bytes(dice, n)),
+        ("s", 3 | 4) => format!("s.emit {n}"),
+        ("s", 5 | 6) => format!("s.ack_and_drop 0 {}", at("emitted").saturating_sub(dice.pick(&[0, 0, 1, 9]))),
+        ("s", 7) => format!("s.update_max_data {}", at("limit").saturating_add(n)),
+        ("r", 0..=3) => format!("r.write {} {} 0", dice.near(&[at("off"), at("len")]), bytes(dice, n)),
+        ("r", 4..=6) => format!("r.emit {n}"),
+        ("r", 7) => format!("r.commit {n}"),
+        _ => call(dice, object, state),
+    }
+}
+
+/// The creation that a random sequence begins with.
 pub fn first(dice: &mut Dice, object: &str) -> String {
-    let arena = dice.pick(&[1, 2, 8, 40, 300, 4096, 65536]);
+    let arena = dice.pick(&[1, 2, 8, 40, 140, 300, 4096, 65536]);
+    let arena = if dice.one_in(50) { dice.pick(&[0, 65537]) } else { arena };
     match object {
         "rb" => {
             let n = dice.pick(&[0, 1, 40]);
-            format!("rb.new {} {}", dice.pick(&[0, 7, M - 40]), bytes(dice, n))
+            format!("rb.new {} {}", dice.near(&[0, 7, M - 40, M]), bytes(dice, n))
         }
         "fc" => format!(
             "fc.new {} {} {}",
-            dice.near(&[0, 16, 1000, M]),
-            dice.near(&[0, 16, M]),
-            dice.near(&[0, 24, M])
+            dice.near(&[0, 16, 1000, M, M, TOP]),
+            dice.near(&[0, 16, 16, M, M, TOP]),
+            dice.near(&[0, 24, 24, M, M, TOP])
         ),
-        "rs" => format!("rs.new {}", dice.pick(&[1, 2, 3, 4, 5, 8, 63, 64])),
-        "s" => format!("s.new {} {arena}", dice.near(&[0, 1, 20, 5000, 70000, M])),
+        "rs" => format!("rs.new {}", dice.pick(&[0, 1, 2, 3, 4, 5, 8, 63, 64, 64, 65])),
+        "s" => format!("s.new {} {arena}", dice.near(&[0, 1, 20, 5000, 2 * arena, M, TOP])),
         _ => format!(
             "r.new {} {} {arena}",
-            dice.near(&[0, 1, 20, 300, 70000]),
-            dice.near(&[0, 20, 5000, M])
+            dice.near(&[0, 1, 20, 300, 2 * arena, M, TOP]),
+            dice.near(&[0, 20, 5000, 2 * arena, M, TOP])
         ),
     }
 }

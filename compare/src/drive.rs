@@ -1,29 +1,77 @@
 //! Holds the port beside quiche: `drive PORT ORACLE SECONDS SEED`.
 //!
 //! Both programs speak the call script. Each call goes to the port first. What the port refuses by a refusal that quiche does
-//! not have, and what stands in a row of docs/DIFFERENCES.md, does not reach quiche; every other answer, and the whole state
-//! after it, must be the same text. First every short sequence over small alphabets, then random sequences around every
-//! boundary for the time given. A difference in no row is shrunk, printed, and the exit status is 1.
+//! not have, and what stands in a row of docs/DIFFERENCES.md, does not reach quiche: it is held to document 01's rules and to the
+//! row (owed.rs). Every other answer, and the whole state after it, must be the same text. First every short sequence over small
+//! alphabets, then random sequences around every boundary for the time given. A difference in no row is shrunk, printed, and the
+//! exit status is 1.
+
+mod calls;
+mod owed;
+mod rows;
+mod side;
 
 use std::collections::BTreeMap;
 use std::time::Duration;
 use std::time::Instant;
 
-mod calls;
-
-use calls::added;
 use calls::alphabets;
 use calls::call;
 use calls::crowding;
 use calls::first;
-use calls::row;
+use calls::flowing;
 use calls::Dice;
-use calls::Form;
-use calls::Side;
+use rows::added;
+use rows::row;
+use rows::Form;
+use side::Side;
 
+/// What the port said, and who says otherwise what.
 struct Difference {
     port: String,
-    oracle: String,
+    other: (&'static str, String),
+}
+
+/// A sequence under way, of which quiche was told.
+struct Running {
+    done: Vec<String>,
+    /// The port's state, and what its answers do not show.
+    before: String,
+    form: Form,
+    arena: u64,
+    /// The calls that quiche was told, by index, with the port's lines for them.
+    asked: Vec<(usize, String)>,
+    /// A difference that was seen without quiche.
+    end: Option<Difference>,
+}
+
+impl Running {
+    fn begin(oracle: &mut Side) -> Running {
+        oracle.begin();
+        Running {
+            done: Vec::new(),
+            before: "-".into(),
+            form: Form::default(),
+            arena: 0,
+            asked: Vec::new(),
+            end: None,
+        }
+    }
+
+    /// A difference was seen, without quiche: the sequence cannot go on.
+    fn ends(&mut self, port: String, who: &'static str, what: String) -> bool {
+        self.end = Some(Difference {
+            port,
+            other: (who, what),
+        });
+        false
+    }
+}
+
+/// The number of the refusal that an answer is, 0 for a success.
+fn refusal(said: &str) -> u64 {
+    let number = said.strip_prefix("no ").and_then(|code| code.split(' ').next());
+    number.map_or(0, |n| n.parse().unwrap_or(0))
 }
 
 struct Compare {
@@ -36,127 +84,192 @@ struct Compare {
 }
 
 impl Compare {
-    fn begin(&mut self) {
-        self.port.ask("seq x");
-        self.oracle.ask("seq x");
-    }
-
-    /// One call to both sides. `None`: the sequence can go on; `Some(None)`: it ends here; else a difference.
-    fn call(&mut self, line: &str, before: &mut String, form: &mut Form) -> Option<Option<Difference>> {
-        let port = self.port.ask(line);
-        let (said, after) = port
-            .split_once(" | ")
-            .map(|(a, b)| (a.to_string(), b.to_string()))
-            .unwrap_or_default();
-        let name = line.split(' ').next().unwrap();
-        *self.calls.entry(name.into()).or_default() += 1;
-        if let Some((row, goes_on)) = row(line, before, &said, &after, form) {
+    /// One call, and the port's line for it; quiche is told the call if it is to answer it. Can the sequence go on?
+    fn call(&mut self, run: &mut Running, line: String, port: String) -> bool {
+        let name = line.split(' ').next().unwrap().to_string();
+        let (said, after) = port.split_once(" | ").unwrap_or_default();
+        let (said, after) = (said.to_string(), after.to_string());
+        run.done.push(line.clone());
+        *self.calls.entry(name.clone()).or_default() += 1;
+        if name == "s.new" || name == "r.new" {
+            run.arena = line.rsplit(' ').next().unwrap().parse().unwrap_or(0);
+        }
+        if said.is_empty() {
+            return run.ends("the program has ended".into(), "document 01", "an answer".into());
+        }
+        let owed = owed::owed(&line, &run.before, run.arena);
+        if owed != refusal(&said) {
+            let owed = if owed == 0 {
+                "no refusal".into()
+            } else {
+                format!("no {owed}")
+            };
+            return run.ends(port, "document 01", owed);
+        }
+        if let Some((row, goes_on)) = row(&line, &run.before, &said, &after, &run.form) {
             *self.rows.entry(row).or_default() += 1;
-            *before = after;
-            return if goes_on { None } else { Some(None) };
+            let kept = owed::by_row(row, &line, &run.before);
+            run.before = after;
+            return if port == kept {
+                goes_on
+            } else {
+                run.ends(port, "docs/DIFFERENCES.md", kept)
+            };
         }
         if added(&said) {
             *self.refused.entry(format!("{name} {said}")).or_default() += 1;
-            return if after == *before || name.ends_with("new") {
-                None
-            } else {
-                Some(Some(Difference {
-                    port,
-                    oracle: format!("(a refusal, after which the state is to be {before})"),
-                }))
-            };
+            let kept = format!("{said} | {}", run.before);
+            return port == kept || run.ends(port, "document 01", kept);
         }
-        let oracle = self.oracle.ask(line);
-        self.compared += 1;
-        if port != oracle {
-            return Some(Some(Difference { port, oracle }));
-        }
-        form.step(line, &after);
-        *before = after;
-        None
+        self.oracle.tell(&line);
+        run.asked.push((run.done.len(), port));
+        run.form.step(&line, &after);
+        run.before = after;
+        true
     }
 
-    /// A whole sequence, given call by call; the calls up to a difference, and the difference.
+    /// Hears quiche's answers to a sequence that has ended; the calls up to the first difference, and the difference.
+    fn settle(&mut self, mut run: Running) -> Option<(Vec<String>, Difference)> {
+        let mut found = run.end.map(|difference| (run.done.len(), difference));
+        self.oracle.hear();
+        let answers: Vec<String> = run.asked.iter().map(|_| self.oracle.hear()).collect();
+        self.compared += answers.len() as u64;
+        if let Some(((at, port), oracle)) = run.asked.into_iter().zip(answers).find(|((_, port), oracle)| port != oracle) {
+            let other = ("quiche", oracle);
+            found = Some((at, Difference { port, other }));
+        }
+        let (at, difference) = found?;
+        run.done.truncate(at);
+        Some((run.done, difference))
+    }
+
+    /// A whole sequence, each call by the state that the one before left.
     fn sequence(&mut self, mut next: impl FnMut(&str) -> Option<String>) -> Option<(Vec<String>, Difference)> {
-        self.begin();
-        let (mut done, mut before, mut form) = (Vec::new(), "-".to_string(), Form::default());
-        while let Some(line) = next(&before) {
-            done.push(line.clone());
-            match self.call(&line, &mut before, &mut form) {
-                None => {}
-                Some(None) => return None,
-                Some(Some(difference)) => return Some((done, difference)),
+        let mut run = Running::begin(&mut self.oracle);
+        self.port.begin();
+        self.port.hear();
+        while let Some(line) = next(&run.before) {
+            let port = self.port.ask(&line);
+            if !self.call(&mut run, line, port) {
+                break;
             }
         }
-        None
+        self.settle(run)
     }
 
-    fn replay(&mut self, lines: &[String]) -> Option<(Vec<String>, Difference)> {
-        let mut at = 0;
-        self.sequence(|_| {
-            at += 1;
-            lines.get(at - 1).cloned()
-        })
+    /// Sequences that are known beforehand: both sides are told all of them at once. The first that has a difference.
+    fn replay(&mut self, all: &[Vec<String>]) -> Option<(Vec<String>, Difference)> {
+        for lines in all {
+            self.port.begin();
+            lines.iter().for_each(|line| self.port.tell(line));
+        }
+        let hear = |side: &mut Side, lines: &Vec<String>| -> Vec<String> {
+            side.hear();
+            lines.iter().map(|_| side.hear()).collect()
+        };
+        let answers: Vec<_> = all.iter().map(|lines| hear(&mut self.port, lines)).collect();
+        if self.port.ended {
+            // Its last words are lost with it: once more, call by call.
+            return all.iter().find_map(|lines| {
+                let mut lines = lines.iter().cloned();
+                self.sequence(|_| lines.next())
+            });
+        }
+        let mut runs = Vec::new();
+        for (lines, answers) in all.iter().zip(answers) {
+            let mut run = Running::begin(&mut self.oracle);
+            let mut said = lines.iter().cloned().zip(answers);
+            while said.next().is_some_and(|(line, port)| self.call(&mut run, line, port)) {}
+            runs.push(run);
+        }
+        let settled: Vec<_> = runs.into_iter().map(|run| self.settle(run)).collect();
+        settled.into_iter().flatten().next()
     }
 
-    /// The smallest sequence with a difference that leaving out calls and lessening numbers finds.
-    fn shrink(&mut self, mut lines: Vec<String>) -> (Vec<String>, Difference) {
+    /// The smallest sequence with a difference that leaving out calls and lessening numbers finds. The creation stays.
+    fn shrink(&mut self, lines: Vec<String>) -> (Vec<String>, Difference) {
+        let mut best = self.replay(&[lines]).expect("the difference is still there");
         loop {
-            let mut less = None;
-            for smaller in smaller(&lines) {
-                if let Some((found, _)) = self.replay(&smaller) {
-                    less = Some(found);
-                    break;
+            let was = best.0.clone();
+            let mut size = best.0.len() / 2;
+            while size > 0 {
+                let mut at = 1;
+                while at < best.0.len() {
+                    let behind = best.0.len().min(at + size);
+                    match self.replay(&[[&best.0[..at], &best.0[behind..]].concat()]) {
+                        Some(less) => best = less,
+                        None => at += size,
+                    }
+                }
+                size /= 2;
+            }
+            let mut i = 0;
+            while i < best.0.len() {
+                match lesser(&best.0, i).into_iter().find_map(|less| self.replay(&[less])) {
+                    Some(less) => best = less,
+                    None => i += 1,
                 }
             }
-            match less {
-                Some(found) => lines = found,
-                None => break,
+            if let Some(less) = lowered(&best.0).into_iter().find_map(|less| self.replay(&[less])) {
+                best = less;
+            }
+            if best.0 == was {
+                return best;
             }
         }
-        let (lines, difference) = self.replay(&lines).expect("the difference is still there");
-        (lines, difference)
     }
 }
 
-/// The sequences one step smaller: a call left out, or a number made less.
-fn smaller(lines: &[String]) -> Vec<Vec<String>> {
-    let mut all = Vec::new();
-    for i in (1..lines.len()).rev() {
-        let mut less = lines.to_vec();
-        less.remove(i);
-        all.push(less);
+/// A word with its number, or its count of bytes, made another.
+fn resized(word: &str, to: impl Fn(u64) -> u64) -> String {
+    if let Some((n, t)) = word.strip_prefix('p').and_then(|w| w.split_once(':')) {
+        let n = to(n.parse().unwrap_or(0));
+        return if n == 0 { "x".into() } else { format!("p{n}:{t}") };
     }
-    for i in 0..lines.len() {
-        let words: Vec<&str> = lines[i].split(' ').collect();
-        for (j, word) in words.iter().enumerate().skip(1) {
-            let mut tries: Vec<String> = Vec::new();
-            if let Ok(n) = word.parse::<u64>() {
-                tries.extend(
-                    [0, 1, n / 2, n.saturating_sub(1)]
-                        .iter()
-                        .filter(|m| **m < n)
-                        .map(|m| m.to_string()),
-                );
-            } else if let Some((n, t)) = word.strip_prefix('p').and_then(|w| w.split_once(':')) {
-                let n: u64 = n.parse().unwrap_or(0);
-                tries.extend(
-                    [0, 1, n / 2, n.saturating_sub(1)]
-                        .iter()
-                        .filter(|m| **m < n)
-                        .map(|m| format!("p{m}:{t}")),
-                );
-            }
-            for less in tries {
-                let mut words: Vec<String> = words.iter().map(|w| w.to_string()).collect();
-                words[j] = less;
-                let mut copy = lines.to_vec();
-                copy[i] = words.join(" ");
-                all.push(copy);
-            }
+    if let Some(hex) = word.strip_prefix('x') {
+        return format!("x{}", &hex[..2 * to(hex.len() as u64 / 2) as usize]);
+    }
+    word.parse().map_or(word.into(), |n| to(n).to_string())
+}
+
+/// The sequences in which the call at index i is less: one of its words, the least first, or all of them by half.
+fn lesser(lines: &[String], i: usize) -> Vec<Vec<String>> {
+    let words: Vec<&str> = lines[i].split(' ').collect();
+    let mut all = Vec::new();
+    let mut with = |line: String| {
+        let mut copy = lines.to_vec();
+        copy[i] = line;
+        all.push(copy);
+    };
+    for (j, word) in words.iter().enumerate().skip(1) {
+        let plain = word.split_once(':').map(|(count, _)| format!("{count}:0"));
+        for less in (0..64).map(|k| resized(word, |n| n - (n >> k))).chain(plain) {
+            let mut words = words.clone();
+            words[j] = &less;
+            with(words.join(" "));
         }
     }
+    with(each_word(&lines[i], |w| resized(w, |n| n / 2)));
+    all.retain(|less| less != lines);
     all
+}
+
+/// The sequences in which every number from some size on is less by that size, so that numbers that hang together stay so.
+fn lowered(lines: &[String]) -> Vec<Vec<String>> {
+    let top = lines
+        .iter()
+        .flat_map(|l| l.split(' '))
+        .filter_map(|w| w.parse::<u64>().ok())
+        .max();
+    let steps = (1..64).map(|k| top.unwrap_or(0) >> k).filter(|d| *d > 0);
+    let less = |w: &str, d| w.parse().map_or(w.into(), |n: u64| n.checked_sub(d).unwrap_or(n).to_string());
+    steps
+        .map(|d| lines.iter().map(|l| each_word(l, |w| less(w, d))).collect())
+        .collect()
+}
+
+fn each_word(line: &str, to: impl Fn(&str) -> String) -> String {
+    line.split(' ').map(to).collect::<Vec<_>>().join(" ")
 }
 
 fn report(compare: &Compare) {
@@ -175,34 +288,42 @@ fn report(compare: &Compare) {
     println!("answers and states compared: {}", compare.compared);
 }
 
+/// Shrinks the sequence, prints it with both sides' words that differ, and ends.
 fn fail(compare: &mut Compare, lines: Vec<String>) -> ! {
-    let (lines, difference) = compare.shrink(lines);
-    println!("A DIFFERENCE in no row of docs/DIFFERENCES.md:");
+    let (found, compared) = (lines.len(), compare.compared);
+    let (
+        lines,
+        Difference {
+            port,
+            other: (who, what),
+        },
+    ) = compare.shrink(lines);
+    println!(
+        "A DIFFERENCE in no row of docs/DIFFERENCES.md, after {compared} compared, at call {found} of a sequence. The smallest:"
+    );
     for line in &lines {
         println!("    {line}");
     }
-    println!("  here:   {}\n  quiche: {}", difference.port, difference.oracle);
+    println!("  here: {port}\n  {who}: {what}");
+    let words: Vec<_> = port.split(' ').zip(what.split(' ')).filter(|(a, b)| a != b).collect();
+    if port.split(' ').count() == what.split(' ').count() {
+        words.iter().for_each(|(a, b)| println!("  differs: {a} here, {b} there"));
+    }
     report(compare);
     std::process::exit(1)
 }
 
 fn exhaustive(compare: &mut Compare) {
     for (first, depth, letters) in alphabets() {
-        let mut at = vec![0usize; depth];
+        let mut at = vec![0usize; depth - 1];
         loop {
-            let mut i = 0;
-            let found = compare.sequence(|_| {
-                i += 1;
-                match i {
-                    1 => Some(first.to_string()),
-                    i if i - 2 < depth => Some(letters[at[i - 2]].to_string()),
-                    _ => None,
-                }
-            });
-            if let Some((lines, _)) = found {
+            let front: Vec<&str> = [first].into_iter().chain(at.iter().map(|&j| letters[j])).collect();
+            let with = |last: &&str| front.iter().chain([last]).map(|line| line.to_string()).collect();
+            let all: Vec<Vec<String>> = letters.iter().map(with).collect();
+            if let Some((lines, _)) = compare.replay(&all) {
                 fail(compare, lines);
             }
-            let Some(j) = (0..depth).rev().find(|&j| at[j] + 1 < letters.len()) else {
+            let Some(j) = (0..depth - 1).rev().find(|&j| at[j] + 1 < letters.len()) else {
                 break;
             };
             at[j] += 1;
@@ -237,14 +358,13 @@ fn main() {
     while began.elapsed() < Duration::from_secs(seconds) {
         let object = dice.pick(&["rb", "fc", "rs", "rs", "s", "s", "s", "r", "r", "r"]);
         let length = dice.pick(&[5, 20, 60, 200, 400]);
-        let crowded = dice.one_in(3);
+        let way: fn(&mut Dice, &str, &str) -> String = dice.pick(&[call, call, crowding, flowing]);
         let mut made = 0;
         let found = compare.sequence(|state| {
             made += 1;
             match made {
                 1 => Some(first(&mut dice, object)),
-                m if m < length && state != "-" && crowded => Some(crowding(&mut dice, object, state)),
-                m if m < length && state != "-" => Some(call(&mut dice, object, state)),
+                m if m < length && state != "-" => Some(way(&mut dice, object, state)),
                 _ => None,
             }
         });

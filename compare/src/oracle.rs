@@ -1,9 +1,5 @@
 //! The oracle: quiche's own buffers under the call script.
 //!
-//! quiche's files are compiled as they stand, from the folder that QUICHE_SRC names when this program is built. Each is
-//! included into a module that adds only what looks at private fields; the crate root below supplies the names that the
-//! files take from theirs, and the two small types that they take from stream/mod.rs.
-//!
 //! A call that quiche answers with an error prints document 01's number; one that panics prints `panic` and the object is
 //! gone until it is created again.
 
@@ -12,144 +8,27 @@ use std::panic::AssertUnwindSafe;
 use std::time::Duration;
 use std::time::Instant;
 
-pub use buffers::BufFactory;
-
+mod quiche;
 mod script;
 
+use quiche::buffers;
+use quiche::flowcontrol;
+use quiche::range_buf;
+use quiche::range_buf::RangeBuf;
+use quiche::ranges;
+use quiche::set_text;
+use quiche::stream;
+use quiche::stream::recv_buf::RecvBuf;
+use quiche::stream::send_buf::SendBuf;
+use quiche::stream::RecvAction;
+use quiche::BufFactory;
+use quiche::Error;
+use quiche::Result;
 use script::bytes_of;
 use script::bytes_text;
-use script::chunk_text;
 use script::option;
-use script::ranges_text;
-use script::window_text;
 use script::Call;
 use script::Side;
-
-#[derive(Debug, PartialEq)]
-pub enum Error {
-    Done,
-    BufferTooShort,
-    FinalSize,
-    FlowControl,
-    StreamStopped(u64),
-    StreamReset(u64),
-}
-
-pub type Result<T> = std::result::Result<T, Error>;
-
-#[allow(dead_code)]
-mod buffers {
-    include!(concat!(env!("QUICHE_SRC"), "/buffers.rs"));
-}
-
-#[allow(dead_code)]
-mod range_buf {
-    include!(concat!(env!("QUICHE_SRC"), "/range_buf.rs"));
-
-    pub fn show(b: &RangeBuf) -> String {
-        crate::chunk_text(b.off, b.len as u64, (b.pos - b.start) as u64)
-    }
-
-    /// All bytes of a chunk, consumed ones included.
-    pub fn whole(b: &RangeBuf) -> &[u8] {
-        &b.data.as_ref()[b.start..b.start + b.len]
-    }
-}
-
-#[allow(dead_code)]
-mod ranges {
-    include!(concat!(env!("QUICHE_SRC"), "/ranges.rs"));
-}
-
-#[allow(dead_code)]
-mod flowcontrol {
-    include!(concat!(env!("QUICHE_SRC"), "/flowcontrol.rs"));
-
-    pub fn show(f: &FlowControl, zero: Instant) -> String {
-        let last = f.last_update.map(|t| t.duration_since(zero).as_micros() as u64);
-        crate::window_text(f.consumed, f.max_data, f.window, f.max_window, last)
-    }
-}
-
-#[allow(dead_code)]
-mod stream {
-    pub enum RecvAction<T: bytes::BufMut> {
-        Emit { out: T },
-        Discard { len: usize },
-    }
-
-    #[derive(Debug)]
-    pub struct RecvBufResetReturn {
-        pub max_data_delta: u64,
-        pub consumed_flowcontrol: u64,
-    }
-
-    impl RecvBufResetReturn {
-        pub fn zero() -> Self {
-            Self {
-                max_data_delta: 0,
-                consumed_flowcontrol: 0,
-            }
-        }
-    }
-
-    pub mod send_buf {
-        include!(concat!(env!("QUICHE_SRC"), "/stream/send_buf.rs"));
-
-        pub fn show(s: &SendBuf) -> String {
-            let chunks: Vec<String> = s.data.iter().map(crate::range_buf::show).collect();
-            let held: Vec<u8> = s.data.iter().flat_map(|b| crate::range_buf::whole(b).to_vec()).collect();
-            format!(
-                "chunks=[{}] held={} pos={} off={} emitted={} tosend={} limit={} blocked={} fin={} acked={} shut={} err={}",
-                chunks.join(","),
-                crate::bytes_text(&held),
-                s.pos,
-                s.off,
-                s.emit_off,
-                s.buffered_bytes,
-                s.max_data,
-                crate::option(s.blocked_at),
-                crate::option(s.fin_off),
-                crate::set_text(&s.acked),
-                s.shutdown as u8,
-                crate::option(s.error)
-            )
-        }
-    }
-
-    pub mod recv_buf {
-        include!(concat!(env!("QUICHE_SRC"), "/stream/recv_buf.rs"));
-
-        pub fn show(r: &RecvBuf, zero: Instant) -> String {
-            let chunks: Vec<String> = r.data.values().map(crate::range_buf::show).collect();
-            let kept: Vec<u8> = r.data.values().flat_map(|b| b.to_vec()).collect();
-            format!(
-                "chunks=[{}] kept={} off={} len={} fin={} err={} drain={} {}",
-                chunks.join(","),
-                crate::bytes_text(&kept),
-                r.off,
-                r.len,
-                crate::option(r.fin_off),
-                crate::option(r.error),
-                r.drain as u8,
-                crate::flowcontrol::show(&r.flow_control, zero)
-            )
-        }
-
-        pub fn flow(r: &mut RecvBuf) -> &mut flowcontrol::FlowControl {
-            &mut r.flow_control
-        }
-    }
-}
-
-use range_buf::RangeBuf;
-use stream::recv_buf::RecvBuf;
-use stream::send_buf::SendBuf;
-use stream::RecvAction;
-
-fn set_text(set: &ranges::RangeSet) -> String {
-    ranges_text(set.iter().map(|r| (r.start, r.end)))
-}
 
 fn refusal(e: Error) -> String {
     match e {

@@ -45,6 +45,35 @@ fn sizes(answer: Answer) -> String {
     told(answer, |a| format!("ok {} {}", a.first, a.second))
 }
 
+/// What stands in an output before a call.
+const REST: u8 = 0xa5;
+
+/// An answer with bytes handed out: behind them the output is to be as it was.
+fn handed(answer: Answer, out: &[u8]) -> String {
+    let count = if answer.number == 0 { answer.first as usize } else { 0 };
+    let said = told(answer, |a| {
+        format!("ok {} {} {}", a.first, a.second, bytes_text(&out[..count]))
+    });
+    if out[count..].iter().any(|b| *b != REST) {
+        return format!("{said} and more of the output");
+    }
+    said
+}
+
+/// A write's answer: the arena may have changed only where a chunk has its bytes after it, and not at all by a refusal.
+fn kept(said: String, before: &[u8], arena: &[u8], chunks: &[RangeBufState]) -> String {
+    let mut changed: Vec<bool> = before.iter().zip(arena).map(|(a, b)| a != b).collect();
+    if said.starts_with("ok") {
+        for o in chunks.iter().flat_map(|c| c.off + c.pos..c.off + c.len) {
+            changed[(o % arena.len() as u64) as usize] = false;
+        }
+    }
+    if changed.contains(&true) {
+        return format!("{said} and more of the arena");
+    }
+    said
+}
+
 /// Takes the state over and hands the answer on.
 fn step<S>(state: &mut S, out: Out<S>) -> Answer {
     *state = out.state;
@@ -172,16 +201,14 @@ impl Objects {
         let mut other = call.arena.map(|len| vec![0; len]);
         let arena = other.as_mut().unwrap_or(arena);
         Some(match call.call {
-            "write" => count(step(
-                s,
-                raw::send_buf_write(*s, arena, &bytes_of(call.words[0]), call.words[1] == "1"),
-            )),
+            "write" => {
+                let (bytes, before) = (bytes_of(call.words[0]), arena.clone());
+                let said = count(step(s, raw::send_buf_write(*s, arena, &bytes, call.words[1] == "1")));
+                kept(said, &before, arena, &s.data[..s.count])
+            }
             "emit" => {
-                let mut out = vec![0; n[0] as usize];
-                let answer = step(s, raw::send_buf_emit(*s, arena, &mut out));
-                told(answer, |a| {
-                    format!("ok {} {} {}", a.first, a.second, bytes_text(&out[..a.first as usize]))
-                })
+                let mut out = vec![REST; n[0] as usize];
+                handed(step(s, raw::send_buf_emit(*s, arena, &mut out)), &out)
             }
             "update_max_data" => plain(step(s, raw::send_buf_update_max_data(*s, n[0]))),
             "update_blocked_at" => {
@@ -210,15 +237,13 @@ impl Objects {
         }
         Some(match call.call {
             "write" => {
-                let bytes = bytes_of(call.words[1]);
-                plain(step(r, raw::recv_buf_write(*r, arena, n[0], &bytes, call.words[2] == "1")))
+                let (bytes, before) = (bytes_of(call.words[1]), arena.clone());
+                let said = plain(step(r, raw::recv_buf_write(*r, arena, n[0], &bytes, call.words[2] == "1")));
+                kept(said, &before, arena, &r.data[..r.count])
             }
             "emit" => {
-                let mut out = vec![0; n[0] as usize];
-                let answer = step(r, raw::recv_buf_emit(*r, arena, &mut out));
-                told(answer, |a| {
-                    format!("ok {} {} {}", a.first, a.second, bytes_text(&out[..a.first as usize]))
-                })
+                let mut out = vec![REST; n[0] as usize];
+                handed(step(r, raw::recv_buf_emit(*r, arena, &mut out)), &out)
             }
             "discard" => sizes(step(r, raw::recv_buf_discard(*r, n[0]))),
             "reset" => sizes(step(r, raw::recv_buf_reset(*r, n[0], n[1]))),

@@ -8,15 +8,20 @@ pub fn option(n: Option<u64>) -> String {
     n.map_or("-".to_string(), |n| n.to_string())
 }
 
-fn crc32(data: &[u8]) -> u32 {
-    let mut crc = !0u32;
-    for b in data {
-        crc ^= *b as u32;
-        for _ in 0..8 {
-            crc = if crc & 1 == 1 { crc >> 1 ^ 0xedb8_8320 } else { crc >> 1 };
-        }
+/// The CRC-32 of each single byte.
+const CRCS: [u32; 256] = {
+    let mut all = [0; 256];
+    let mut i = 0;
+    while i < 8 * 256 {
+        let crc = if i % 8 == 0 { i as u32 / 8 } else { all[i / 8] };
+        all[i / 8] = if crc & 1 == 1 { crc >> 1 ^ 0xedb8_8320 } else { crc >> 1 };
+        i += 1;
     }
-    !crc
+    all
+};
+
+fn crc32(data: &[u8]) -> u32 {
+    !data.iter().fold(!0, |crc, b| crc >> 8 ^ CRCS[(crc as u8 ^ b) as usize])
 }
 
 /// Bytes of an answer or a state: in full up to 32, else their count and CRC-32.
@@ -84,9 +89,13 @@ pub trait Side {
 /// Reads a script on standard input and writes a line for each call.
 pub fn serve(side: &mut impl Side) {
     let mut out = std::io::BufWriter::new(std::io::stdout().lock());
-    for line in std::io::stdin().lock().lines() {
-        let line = line.expect("a line of text");
-        let line = line.trim();
+    let mut input = std::io::BufReader::new(std::io::stdin());
+    loop {
+        let mut text = String::new();
+        if input.read_line(&mut text).expect("a line of text") == 0 {
+            return;
+        }
+        let line = text.trim();
         if line.is_empty() || line.starts_with('#') {
             continue;
         }
@@ -98,7 +107,10 @@ pub fn serve(side: &mut impl Side) {
             let said = side.call(&call).unwrap_or("-".into());
             writeln!(out, "{said} | {}", side.state(call.object)).expect("standard output");
         }
-        out.flush().expect("standard output");
+        // Who waits for an answer has sent nothing more.
+        if input.buffer().is_empty() {
+            out.flush().expect("standard output");
+        }
     }
 }
 

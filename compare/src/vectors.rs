@@ -1,29 +1,32 @@
 //! Writes the stored list of the program `vectors`: `vectors ORACLE SEQUENCES SEED DATE`.
 //!
-//! Every call goes to quiche, and the list has quiche's line for it. Whether document 01 asks for another is decided here, by rules
-//! written from document 01 over quiche's own answer and the state before the call (`ruled`). Our code has no part in it.
+//! Every call goes to quiche, and the list has quiche's line for it. Whether document 01 asks for another is decided by the rules of
+//! owed.rs, over quiche's own state before the call. Our code has no part in it.
 //!
 //! After a call that document 01 answers otherwise quiche is started afresh and given the sequence again without that call, so
 //! that the two go on from the same state. Where document 01 asks for another state than quiche can have, the sequence ends.
 
+mod calls;
+mod owed;
+mod rows;
+mod side;
+
 use std::collections::BTreeMap;
 
-mod calls;
-
-use calls::added;
 use calls::alphabets;
 use calls::call;
 use calls::crowding;
-use calls::field;
 use calls::first;
-use calls::is_set;
-use calls::ranges;
-use calls::row;
+use calls::flowing;
 use calls::Dice;
-use calls::Form;
-use calls::Side;
-use calls::M;
-use calls::TOP;
+use owed::by_row;
+use owed::owed;
+use rows::added;
+use rows::field;
+use rows::is_set;
+use rows::row;
+use rows::Form;
+use side::Side;
 
 const OBJECTS: [&str; 5] = ["rb", "fc", "rs", "s", "r"];
 
@@ -40,63 +43,51 @@ struct Ruled {
     left_out: bool,
 }
 
-/// The chunks of a buffer's state, or the one of a chunk's: offset, length, consumed part.
-fn chunks(state: &str) -> Vec<(u64, u64, u64)> {
-    let inner = state.split_once('[').and_then(|(_, s)| s.split_once(']'));
-    let one = |w: &str| {
-        let (off, rest) = w.split_once('+')?;
-        let (len, pos) = rest.split_once('~')?;
-        Some((off.parse().ok()?, len.parse().ok()?, pos.parse().ok()?))
-    };
-    inner.map_or(state, |s| s.0).split(',').filter_map(one).collect()
-}
-
-/// The acked ranges of a send buffer's state.
-fn acked(state: &str) -> usize {
-    let set = state.split(' ').find_map(|w| w.strip_prefix("acked="));
-    set.map_or(0, |s| ranges(s).len())
-}
-
-fn set_text(set: &[(u64, u64)]) -> String {
-    let all: Vec<String> = set.iter().map(|(s, e)| format!("{s}-{e}")).collect();
-    format!("[{}]", all.join(","))
-}
-
-/// How many bytes a word of the script stands for.
-fn count(word: &str) -> u64 {
-    match word.strip_prefix('x') {
-        Some(hex) => hex.len() as u64 / 2,
-        None => word[1..].split_once(':').and_then(|(n, _)| n.parse().ok()).unwrap_or(0),
+/// The row of an added refusal, by the call and the refusal's number.
+fn row_of_refusal(call: &str, number: u64) -> u32 {
+    match (call, number) {
+        ("rb.new", _) => 1,
+        ("rb.split", _) => 2,
+        ("rb.consume", _) => 3,
+        ("rs.insert", _) => 4,
+        ("fc.add_consumed" | "r.fc.add_consumed", _) => 5,
+        ("fc.lower_bound" | "r.fc.lower_bound", _) => 6,
+        ("fc.new" | "rs.new", _) => 7,
+        ("s.new" | "r.new", _) => 8,
+        (_, 10) => 9,
+        ("rs.push_item", _) => 14,
+        ("s.update_max_data", _) => 21,
+        ("s.write", 5) => 22,
+        ("s.write" | "s.retransmit", 6) => 23,
+        ("s.ack" | "s.ack_and_drop", 6) => 24,
+        (_, 7) => 25,
+        ("r.write" | "r.reset", 1) => 26,
+        ("r.emit" | "r.discard", 1) => 27,
+        ("r.write", 5) => 28,
+        ("r.write", 6) => 29,
+        _ => panic!("{call} is refused {number} in no row"),
     }
 }
 
-/// What quiche answered: the first number behind `ok`.
-fn told(said: &str) -> Option<u64> {
-    said.strip_prefix("ok ")?.split(' ').next()?.parse().ok()
+/// The other rows, by what quiche answered.
+fn row_of(line: &str, before: &str, said: &str, after: &str) -> Option<u32> {
+    let words: Vec<&str> = line.split(' ').collect();
+    let n = |i: usize| words.get(i).and_then(|w| w.parse::<u64>().ok()).unwrap_or(0);
+    match (words[0], said) {
+        ("rs.remove_until", "panic") => Some(10),
+        ("rs.insert" | "rs.push_item", "panic") => Some(11),
+        ("rs.remove_until", _) if by_row("D-12", line, before) != format!("{said} | {after}") => Some(12),
+        ("rs.last", "panic") => Some(13),
+        ("fc.should_update" | "r.get", "panic") => Some(20),
+        ("r.reset", "no 4") => Some(30),
+        ("r.write", "ok") if words[2] == "x" && words[3] == "0" && Some(n(1)) > field(before, "len") => Some(31),
+        ("r.reset", _) if said.starts_with("ok") && first_reset_with_size(before) => Some(32),
+        _ => None,
+    }
 }
 
-/// `remove_until(v)` by document 01: every number up to v goes; empty ranges at or below v go, others stay.
-fn removed(set: &[(u64, u64)], v: u64) -> Vec<(u64, u64)> {
-    let rest = set.iter().filter(|(s, e)| if s == e { *s > v } else { e - 1 > v });
-    rest.map(|&(s, e)| if s <= v { (v + 1, e) } else { (s, e) }).collect()
-}
-
-/// An insertion into a full set that joins nothing: the lowest range goes, the new one enters.
-fn displaced(set: &[(u64, u64)], item: (u64, u64)) -> Vec<(u64, u64)> {
-    let mut rest = set[1..].to_vec();
-    rest.push(item);
-    rest.sort();
-    rest
-}
-
-/// A state line with other numbers at some names.
-fn with(state: &str, changes: &[(&str, String)]) -> String {
-    let word = |w: &str| {
-        let name = w.split('=').next().unwrap();
-        let change = changes.iter().find(|(n, _)| *n == name);
-        change.map_or(w.to_string(), |(_, v)| format!("{name}={v}"))
-    };
-    state.split(' ').map(word).collect::<Vec<_>>().join(" ")
+fn first_reset_with_size(state: &str) -> bool {
+    is_set(state, "fin") && !is_set(state, "err") && field(state, "drain") == Some(0)
 }
 
 struct List {
@@ -121,7 +112,7 @@ struct List {
 impl List {
     fn seq(&mut self, label: &str) {
         let line = format!("seq {label}");
-        self.oracle.ask(&line);
+        self.afresh();
         self.lines.push(line);
         self.made.clear();
         self.states.clear();
@@ -134,9 +125,14 @@ impl List {
         self.states.get(object).cloned().unwrap_or("-".into())
     }
 
+    fn afresh(&mut self) {
+        self.oracle.begin();
+        self.oracle.hear();
+    }
+
     /// Gives quiche the sequence again.
     fn restore(&mut self) {
-        self.oracle.ask("seq again");
+        self.afresh();
         for line in &self.made {
             self.oracle.ask(line);
         }
@@ -148,7 +144,7 @@ impl List {
         let (object, name) = line.split(' ').next().unwrap().split_once('.').unwrap();
         let before = self.state(object);
         let quiche = self.oracle.ask(line);
-        let ruled = self.ruled(line, name, &before, &quiche);
+        let ruled = self.ruled(line, &before, &quiche);
         self.lines.push(line.into());
         self.lines.push(format!("< {quiche}"));
         let expected = ruled.as_ref().map_or(&quiche, |r| &r.line).clone();
@@ -197,159 +193,38 @@ impl List {
     }
 
     /// What document 01 asks where quiche answers otherwise.
-    fn ruled(&mut self, line: &str, name: &str, before: &str, quiche: &str) -> Option<Ruled> {
-        let words: Vec<&str> = line.split(' ').collect();
-        let n = |i: usize| words.get(i).and_then(|w| w.parse::<u64>().ok()).unwrap_or(0);
+    fn ruled(&mut self, line: &str, before: &str, quiche: &str) -> Option<Ruled> {
+        let name = line.split(' ').next().unwrap();
         let (said, after) = quiche.split_once(" | ").unwrap();
-        let object = line.split('.').next().unwrap();
-        let no = |row: u32, number: u32| {
-            Some(Ruled {
-                row,
+        let number = owed(line, before, self.arenas[name.starts_with("r.") as usize]);
+        if added(&format!("no {number}")) {
+            return Some(Ruled {
+                row: row_of_refusal(name, number),
                 line: format!("no {number} | {before}"),
                 left_out: true,
-            })
-        };
-        if before == "-" && name != "new" {
-            return None;
+            });
         }
-        let lent = words
-            .last()
-            .and_then(|w| w.strip_prefix('@'))
-            .and_then(|w| w.parse::<u64>().ok());
-        if lent.is_some_and(|len| len != self.arenas[(object == "r") as usize]) {
-            return no(9, 10);
-        }
-        match object {
-            "rb" => self.ruled_chunk(name, n(1), &words, before).and_then(|row| no(row, 1)),
-            "fc" => match (name, n(1)) {
-                ("new", _) if [n(1), n(2), n(3)].iter().any(|x| *x > M) => no(7, 10),
-                ("add_consumed", k) if at(before, "consumed") as u128 + k as u128 > M as u128 => no(5, 1),
-                ("lower_bound", k) if k > M => no(6, 1),
-                // consumed above the limit counts as 0 left
-                ("should_update", _) if at(before, "consumed") > at(before, "limit") => Some(Ruled {
-                    row: 20,
-                    line: format!("ok {} | {before}", (0 < at(before, "window") / 2) as u8),
-                    left_out: true,
-                }),
-                _ => None,
-            },
-            "rs" => self.ruled_set(name, n(1), n(2), before, said, after),
-            "s" => match name {
-                "new" if n(1) > M || n(2) == 0 || n(2) > 65536 => no(8, 10),
-                "write" => {
-                    let held = chunks(before).first().map_or(0, |c| at(before, "off") - c.0);
-                    match told(said) {
-                        Some(k) if k + held > self.arenas[0] => no(22, 5),
-                        Some(_) if chunks(after).len() > 64 => no(23, 6),
-                        _ => None,
-                    }
-                }
-                "update_max_data" if n(1) > M => no(21, 1),
-                "ack" | "ack_and_drop" | "retransmit" if n(1) as u128 + n(2) as u128 > at(before, "emitted") as u128 => no(25, 7),
-                "ack" | "ack_and_drop" if acked(after) > 64 => no(24, 6),
-                "retransmit" if chunks(after).len() > 64 => no(23, 6),
-                _ => None,
-            },
-            _ => self.ruled_recv(name, &words, before, said, after),
-        }
-    }
-
-    /// The row of a chunk's call that is refused 1.
-    fn ruled_chunk(&self, name: &str, n: u64, words: &[&str], before: &str) -> Option<u32> {
-        let (_, len, pos) = chunks(before).first().copied().unwrap_or((0, 0, 0));
-        match name {
-            "new" if n as u128 + count(words[2]) as u128 > M as u128 => Some(1),
-            "split" if n > len => Some(2),
-            "consume" if n > len - pos => Some(3),
-            _ => None,
-        }
-    }
-
-    fn ruled_set(&self, name: &str, a: u64, b: u64, before: &str, said: &str, after: &str) -> Option<Ruled> {
-        let held = ranges(before);
-        let plain = |row: u32, line: String, left_out: bool| Some(Ruled { row, line, left_out });
-        let full = |item: (u64, u64)| {
-            assert_eq!(held.len() as u64, self.form.capacity, "a panic of another kind");
-            plain(11, format!("ok | {}", set_text(&displaced(&held, item))), false)
-        };
-        match name {
-            "new" if a == 0 || a > 64 => plain(7, format!("no 10 | {before}"), true),
-            "insert" if a > b => plain(4, format!("no 1 | {before}"), true),
-            "push_item" if a == TOP => plain(14, format!("no 1 | {before}"), true),
-            "insert" if said == "panic" => full((a, b)),
-            "push_item" if said == "panic" => full((a, a + 1)),
-            "remove_until" => {
-                let rest = set_text(&removed(&held, a));
-                match said {
-                    "panic" => plain(10, format!("ok | {rest}"), false),
-                    _ if rest != after => plain(12, format!("ok | {rest}"), false),
-                    _ => None,
-                }
-            }
-            "last" if said == "panic" => plain(13, format!("ok - | {before}"), true),
-            _ => None,
-        }
-    }
-
-    fn ruled_recv(&mut self, name: &str, words: &[&str], before: &str, said: &str, after: &str) -> Option<Ruled> {
-        let n = |i: usize| words.get(i).and_then(|w| w.parse::<u64>().ok()).unwrap_or(0);
-        let plain = |row: u32, line: String, left_out: bool| Some(Ruled { row, line, left_out });
-        let no = |row: u32, number: u32| plain(row, format!("no {number} | {before}"), true);
-        if let Some(code) = self.untold {
+        // the reader is told of a reset that quiche keeps to itself (D-32): the notice goes with that, and the states are the same again
+        if let Some(code) = self.untold.take() {
             assert!(
-                name == "emit" || name == "discard",
-                "r.{name}: the reader is to be told first"
+                name == "r.emit" || name == "r.discard",
+                "{line}: the reader is to be told first"
             );
-            self.untold = None;
-            return plain(32, format!("no 9 {code} | {after}"), false);
+            return Some(Ruled {
+                row: 32,
+                line: format!("no 9 {code} | {after}"),
+                left_out: false,
+            });
         }
-        match name {
-            "new" if n(1) > M || n(2) > M || n(3) == 0 || n(3) > 65536 => no(8, 10),
-            "write" => {
-                let (off, len, bare) = (n(1), count(words[2]), words[3] == "0");
-                let end = off as u128 + len as u128;
-                let far = |e: u128| e.saturating_sub(at(before, "off") as u128) > self.arenas[1] as u128;
-                match said {
-                    _ if end > M as u128 => no(26, 1),
-                    "ok" if len == 0 && bare && off > at(before, "len") => plain(31, format!("ok | {before}"), true),
-                    "ok" if at(before, "drain") == 0 && len > 0 && far(end) => no(28, 5),
-                    "ok" if chunks(after).len() > 64 => no(29, 6),
-                    _ => None,
-                }
-            }
-            "emit" | "discard" if told(said).is_some_and(|k| at(before, "consumed") + k > M) => no(27, 1),
-            "reset" if n(2) > M => no(26, 1),
-            "reset" if said == "no 4" => no(30, 4),
-            "reset" if said.starts_with("ok") && is_set(before, "fin") && !is_set(before, "err") && at(before, "drain") == 0 => {
-                self.untold = Some(n(1));
-                let notice = ("chunks", format!("[{}+0~0]", n(2)));
-                plain(32, format!("{said} | {}", with(after, &[notice])), false)
-            }
-            "fc.add_consumed" if at(before, "consumed") as u128 + n(1) as u128 > M as u128 => no(5, 1),
-            "fc.lower_bound" if n(1) > M => no(6, 1),
-            "get" if said == "panic" => plain(20, format!("{} | {before}", self.getters(before)), true),
-            _ => None,
+        let row = row_of(line, before, said, after).filter(|_| before != "-")?;
+        if row == 32 {
+            self.untold = line.split(' ').nth(1).and_then(|w| w.parse().ok());
         }
-    }
-
-    /// What `r.get` answers, from the state, where consumed is above the limit and F not known: then an update is due if half the window
-    /// is more than nothing.
-    fn getters(&mut self, state: &str) -> String {
-        self.restore();
-        let readable = self.oracle.ask(&format!("r.readable_len {TOP}"));
-        let readable = told(readable.split_once(" | ").unwrap().0).unwrap();
-        let ready = chunks(state).first().is_some_and(|c| c.0 + c.2 == at(state, "off"));
-        format!(
-            "ok off_front={} max_off={} is_fin=0 is_draining={} ready={} max_data={} window={} max_data_next={} readable_len={readable} almost_full={}",
-            at(state, "off"),
-            at(state, "len"),
-            at(state, "drain"),
-            ready as u8,
-            at(state, "limit"),
-            at(state, "window"),
-            at(state, "consumed") + at(state, "window"),
-            (0 < at(state, "window") / 2) as u8,
-        )
+        Some(Ruled {
+            row,
+            line: by_row(&format!("D-{row} "), line, before),
+            left_out: ![10, 11, 12, 32].contains(&row),
+        })
     }
 
     /// The sequences of a file. A call may be repeated: `65 * CALL` makes it for i from 0 to 64, with `{a*i+b}` in it reckoned. The last
@@ -379,10 +254,10 @@ impl List {
         }
     }
 
-    /// A random sequence, which ends before the state is too long to be read; one in four fills the tables.
+    /// A random sequence, which ends before the state is too long to be read; two in eight fill the tables, one sends in small steps.
     fn random(&mut self, label: &str, dice: &mut Dice, object: &str, length: u64) {
         self.seq(label);
-        let (line, crowded) = (first(dice, object), dice.one_in(4));
+        let (line, kind) = (first(dice, object), dice.below(8));
         self.call(&line, None);
         for _ in 1..length {
             let state = self.state(object);
@@ -391,7 +266,8 @@ impl List {
             }
             let line = match self.untold {
                 Some(_) => "r.emit 1".to_string(),
-                None if crowded => crowding(dice, object, &state),
+                None if kind < 2 => crowding(dice, object, &state),
+                None if kind == 2 => flowing(dice, object, &state),
                 None => call(dice, object, &state),
             };
             self.call(&line, None);
@@ -413,10 +289,6 @@ impl List {
             self.call(line, None);
         }
     }
-}
-
-fn at(state: &str, name: &str) -> u64 {
-    field(state, name).unwrap_or(0)
 }
 
 /// A call with each `{a*i+b}` reckoned.
@@ -455,8 +327,8 @@ fn head(list: &List, seed: &str, date: &str) -> String {
 #
 # Made on {date} by `compare/vectors {seed}`, after `compare/build`, from quiche 0.30.0's own files, compiled unchanged with overflow checks
 # on. The first sequences are those of compare/sequences.txt; the others are random, from the seed {seed}. The lines that begin with `<` are
-# quiche's own. Those that begin with `!` were reckoned from quiche's answer and the state before the call, by the rules that
-# compare/src/vectors.rs has from document 01; no line was taken from the code that the program tries. After a call with such a line quiche
+# quiche's own. Those that begin with `!` were reckoned from quiche's state before the call, by the rules that compare/src/owed.rs has from
+# document 01; no line was taken from the code that the program tries. After a call with such a line quiche
 # was given the sequence again without it, so both go on from the same state; where document 01 asks for a state that quiche cannot
 # have, the sequence ends.
 #
@@ -502,7 +374,7 @@ fn main() {
             list.letters(&format!("alphabet {k} {i}"), &mut dice, start, depth, &letters);
         }
     }
-    for (object, sequences, length) in [("rb", 10, 12), ("fc", 24, 12), ("rs", 24, 14), ("s", 54, 16), ("r", 54, 16)] {
+    for (object, sequences, length) in [("rb", 10, 12), ("fc", 24, 12), ("rs", 24, 14), ("s", 66, 16), ("r", 66, 16)] {
         for i in 0..sequences {
             list.random(&format!("random {object} {i}"), &mut dice, object, length);
         }

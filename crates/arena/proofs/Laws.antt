@@ -11,9 +11,8 @@ use native.Mathlib.Nat.{add-suc, suc-add, add-zero, zero-add, mod-lt}
 use native.Mathlib.Omega.{arith}
 use lib.ListN.{length, getD, set, take, drop, length-set}
 use lib.Seq.{take-at, drop-at, drop-cons, getD-set-same, getD-set-other}
-use Rattle.tables.proofs.Tables.{cases}
 use Rattle.arena.specs.Rules.{kept, held, handed, byteAt}
-use Rattle.arena.proofs.Places.{below, window}
+use Rattle.arena.proofs.Places.{window}
 
 -- ---- lengths, and nothing at all
 

@@ -1,9 +1,20 @@
--- The places of offsets in a ring of A places. Assumes nothing.
+-- The places of offsets in a ring of A places, and which arena is one. Assumes nothing.
 use mathlib.Core.Path.{_≡_, sym, ap, _∙_}
-use Prim.Native.Nat.{ℕ, suc, _+_, _-_, _%_, _≤_, _<_}
-use native.Mathlib.Nat.{suc-mod, mod-eq-of-lt, mod-self, mod-lt, mod-add-mod, mod-eq-sub-mod}
+use Prim.Native.Nat.{ℕ, _+_, _-_, _%_, _≤_, _<_}
+use native.Mathlib.Nat.{mod-eq-of-lt, mod-lt, mod-add-mod, mod-eq-sub-mod}
 use native.Mathlib.Omega.{arith}
+use borrow.Author.Tests.{eqb-true, eqb-false, not-false}
+use lib.Dec.{eqb}
+use mathlib.Core.Bool.{false, not, _||_}
 use Rattle.tables.proofs.Tables.{cases}
+use Rattle.tables.proofs.Tests.{or-false}
+
+-- an arena of a bytes that passes a buffer's test: it has bytes, as many as the A of creation
+pub right-arena : (A a : ℕ) → (eqb a 0 || not (eqb a A)) ≡ false → (0 < a) × (a ≡ A)
+right-arena A a e =
+    let p = or-false (eqb a 0) (not (eqb a A)) e in
+    let z : a ≡ 0 → ⊥ = eqb-false a 0 (p .0) in
+    (omega arith, eqb-true a A (not-false (eqb a A) (p .1)))
 
 -- the place behind that of offset o
 pub follows : (A o at : ℕ) → at ≡ o % A → (at + 1) % A ≡ (o + 1) % A

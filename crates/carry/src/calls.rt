@@ -1,7 +1,10 @@
 // The calls of the two buffers that a run makes. Each hands back a buffer that the next call may be made on: that is the buffers' own
 // promise (their laws in proofs/Kept.antt), said here once for each call.
+ghost use mathlib.Core.Path.{_≡_};
 ghost use Rattle.send_buf.specs.State.{Good as GoodSend};
-ghost use Rattle.recv_buf.specs.State.{Good as GoodRecv};
+ghost use Rattle.recv_buf.specs.State.{Good as GoodRecv, viewOf};
+ghost use Rattle.recv_buf.specs.Rules.{commits, autotunes};
+use crate::credit;
 use recv_buf::RecvBuf;
 use send_buf::SendBuf;
 
@@ -72,18 +75,12 @@ pub fn take(buf: RecvBuf, arena: &[u8], out: &mut [u8]) -> recv_buf::EmitOutcome
     buf.emit(arena, out)
 }
 
-// The window grown where commits follow one another fast, and the next limit committed. `now` and `rtt` count rounds.
+// The stream's window with a new limit. The buffer's record is taken out, renewed in place and handed back, which comes to the same as the
+// buffer's own two calls: so demand 3 covers it. `now` and `rtt` count rounds.
 pub fn commit(buf: RecvBuf, now: u64, rtt: u64) -> RecvBuf
     requires { ⌜ GoodRecv buf ⌝ }
-    ensures { λ r. ⌜ GoodRecv r ⌝ }
+    ensures { λ r. ⌜ (r ≡ commits (viewOf (autotunes (viewOf buf) now rtt)) now) × GoodRecv r ⌝ }
 {
-    let tuned = tune(buf, now, rtt);
-    tuned.update_max_data(now)
-}
-
-fn tune(buf: RecvBuf, now: u64, rtt: u64) -> RecvBuf
-    requires { ⌜ GoodRecv buf ⌝ }
-    ensures { λ r. ⌜ GoodRecv r ⌝ }
-{
-    buf.autotune_window(now, rtt)
+    let flow = credit::granted(buf.flow_control(), now, rtt);
+    buf.set_flow_control(flow)
 }

@@ -3,6 +3,7 @@
 //
 //     carry [seed [loss per mille [repeat per mille [frame size [send arena [receive arena]]]]]] < FILE > COPY
 mod calls;
+mod credit;
 mod run;
 mod settings;
 mod tally;
@@ -51,10 +52,11 @@ fn carry(set: Settings, sa: &mut [u8], ra: &mut [u8]) {
 fn summary(ended: Run) {
     let send = ended.send;
     let recv = ended.recv;
+    let conn = ended.conn;
     let tally = ended.tally;
     let sender = send.fin_off;
     let receiver = recv.fin_off;
-    tally.summary(sender, receiver, ended.is_done());
+    tally.summary(sender, receiver, conn, ended.is_done());
 }
 
 fn begin(set: Settings, sa: &[u8], ra: &[u8]) -> Run
@@ -66,10 +68,12 @@ fn begin(set: Settings, sa: &[u8], ra: &[u8]) -> Run
     let r = calls::receiver(limit, all, ra);
     let send = s.buf;
     let recv = r.buf;
+    let conn = credit::connection(limit, all);
     let none = run::no_frame();
     Run {
         send,
         recv,
+        conn,
         frames: [none; 8],
         tally: Tally::new(),
         dice: run::rolled(set.seed),

@@ -1,12 +1,14 @@
-// A run: the two buffers, the frames in flight between them, and the dice.
+// A run: the two buffers, the connection's window, the frames in flight, and the dice.
 //
 // Slot k of the channel holds one frame: its numbers in `frames[k]`, its bytes in the lent array from k * 1200 on. In each round a frame
 // in flight waits, or comes to the end, where it is lost or arrives; one that arrived may stay, to arrive again.
 ghost use Prim.Native.Nat.{_<_};
 ghost use Rattle.carry.specs.Sound.{Sound};
 use crate::calls;
+use crate::credit;
 use crate::tally::Tally;
 use crate::tally::say;
+use flowcontrol::FlowControl;
 use libc::STDIN_FILENO;
 use libc::STDOUT_FILENO;
 use recv_buf::RecvBuf;
@@ -30,6 +32,8 @@ pub struct Frame {
 pub struct Run {
     pub send: SendBuf,
     pub recv: RecvBuf,
+    // The connection's window.
+    pub conn: FlowControl,
     pub frames: [Frame; 8],
     pub tally: Tally,
     // The state of the dice, and what they are held against, per mille.
@@ -501,8 +505,8 @@ impl Run {
         requires { ⌜ Sound self ⌝ }
         ensures { λ r. ⌜ Sound r ⌝ }
     {
-        let mut next = self;
-        let t = self.tally.gave(bytes);
+        let mut next = self.spent(bytes.len() as u64);
+        let t = next.tally.gave(bytes);
         next.tally = t;
         next.broken = !io::write_all(STDOUT_FILENO, bytes);
         if next.broken {
@@ -511,7 +515,23 @@ impl Run {
         next
     }
 
-    // Raises the limit on both sides where it is due.
+    // Counts what was handed out in the connection's window, as the receive buffer has in the stream's.
+    fn spent(self, n: u64) -> Run
+        requires { ⌜ Sound self ⌝ }
+        ensures { λ r. ⌜ Sound r ⌝ }
+    {
+        let out = credit::spent(self.conn, n);
+        let answer = out.answer;
+        let conn = out.flow;
+        let mut next = self;
+        next.conn = conn;
+        let Answer::Refused(why) = answer else {
+            return next;
+        };
+        next.refused(why)
+    }
+
+    // Raises the limit where it is due: both windows are renewed, and the sender is granted the lesser of the two limits.
     fn credited(self) -> Run
         requires { ⌜ Sound self ⌝ }
         ensures { λ r. ⌜ Sound r ⌝ }
@@ -521,11 +541,14 @@ impl Run {
         }
         let now = self.tally.rounds;
         let recv = calls::commit(self.recv, now, 4);
-        let out = calls::raise(self.send, recv.max_data());
+        let conn = credit::granted(self.conn, now, 4);
+        let limit = refusal::least(recv.max_data(), conn.max_data());
+        let out = calls::raise(self.send, limit);
         let answer = out.answer;
         let send = out.buf;
         let mut next = self;
         next.recv = recv;
+        next.conn = conn;
         next.send = send;
         let Answer::Refused(why) = answer else {
             return next;

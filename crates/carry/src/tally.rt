@@ -1,5 +1,6 @@
 // What a run counts, and how it is told on standard error. A count that would pass 64 bits stands still.
 ghost use Prim.Native.Nat.{_<_};
+use flowcontrol::FlowControl;
 use libc::STDERR_FILENO;
 use refusal::OptionU64;
 use refusal::Refusal;
@@ -116,7 +117,13 @@ impl Tally {
     }
 
     // The closing summary. `whole` says that the run came to its end.
-    pub fn summary(self, sender: OptionU64, receiver: OptionU64, whole: bool) {
+    pub fn summary(
+        self,
+        sender: OptionU64,
+        receiver: OptionU64,
+        connection: FlowControl,
+        whole: bool,
+    ) {
         line(b"carry: bytes in ", self.taken);
         line(b"carry: bytes out ", self.given);
         line(b"carry: frames sent ", self.sent);
@@ -127,6 +134,8 @@ impl Tally {
         line(b"carry: refused otherwise ", self.others);
         line(b"carry: receive emits ", self.emits);
         line(b"carry: rounds ", self.rounds);
+        line(b"carry: connection consumed ", connection.consumed());
+        line(b"carry: connection limit ", connection.max_data());
         size_line(b"carry: final size of the sender ", sender);
         size_line(b"carry: final size of the receiver ", receiver);
         self.verdict(sender, receiver, whole);

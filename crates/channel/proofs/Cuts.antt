@@ -15,15 +15,15 @@ use mathlib.Core.List.{List, [], _∷_}
 use Prim.Native.Nat.{ℕ, suc, _+_, _-_, _*_, _≤_, _<_, max}
 use native.Mathlib.Nat.{mul-le-mul-left, mul-suc, mul-zero}
 use native.Mathlib.Omega.{arith}
-use lib.Dec.{ltb, leb, eqb}
+use lib.Dec.{ltb, eqb}
 use lib.ListN.{length}
-use borrow.Author.Tests.{ltb-true, ltb-false, leb-true, leb-false, eqb-true, eqb-false, eq-eqb}
+use borrow.Author.Tests.{ltb-true, eqb-true, eqb-false, eq-eqb}
 use Rattle.tables.proofs.Tables.{cases, cond-elim}
 use Rattle.range_buf.specs.declared.RangeBuf.{RangeBuf}
-use Rattle.range_buf.specs.Rules.{start, end, avail, fresh}
+use Rattle.range_buf.specs.Rules.{start, end, avail}
 use Rattle.recv_buf.specs.State.{Chain, Held}
 use Rattle.recv_buf.specs.Rules.{filled, markedAt, isReady, taken, leftOver}
-use Rattle.recv_buf.proofs.Lists.{chain-held, chain-weaken, taken-elim}
+use Rattle.recv_buf.proofs.Lists.{chain-held, chain-weaken, filled-elim, taken-elim}
 use Rattle.tables.proofs.Tests.{either}
 
 -- ---- cut points
@@ -66,28 +66,10 @@ next-weaken : (e e′ : ℕ) (cs : List RangeBuf) → e′ ≤ e → Next e cs �
 next-weaken e e′ [] h k = tt
 next-weaken e e′ (c ∷ cs) h k = omega arith
 
--- the five shapes of a step of `filled`, with what `unmark` looked at
-pub table-elim : (P : List RangeBuf → Type 0) (c : RangeBuf) (cs : List RangeBuf) (lo hi : ℕ)
-    → (hi ≤ start c → hi ≤ lo → P (c ∷ cs))
-    → (hi ≤ start c → lo < hi → end c ≡ hi → P (fresh lo (hi - lo) ∷ cs))
-    → (hi ≤ start c → lo < hi → (end c ≡ hi → ⊥) → P (fresh lo (hi - lo) ∷ c ∷ cs))
-    → (start c < hi → lo < start c → P (fresh lo (start c - lo) ∷ c ∷ filled cs (max lo (end c)) hi))
-    → (start c < hi → start c ≤ lo → P (c ∷ filled cs (max lo (end c)) hi))
-    → P (filled (c ∷ cs) lo hi)
-table-elim P c cs lo hi f₁ f₂ f₃ f₄ f₅ = cond-elim P (leb hi (start c))
-    (λ e. cond-elim P (ltb lo hi)
-    (λ d. cond-elim (λ (x : List RangeBuf). P (fresh lo (hi - lo) ∷ x)) (eqb (end c) hi)
-    (λ g. f₂ (leb-true hi (start c) e) (ltb-true lo hi d) (eqb-true (end c) hi g))
-    (λ g. f₃ (leb-true hi (start c) e) (ltb-true lo hi d) (eqb-false (end c) hi g)))
-    (λ d. f₁ (leb-true hi (start c) e) (ltb-false lo hi d)))
-    (λ e. cond-elim P (ltb lo (start c))
-    (λ d. f₄ (leb-false hi (start c) e) (ltb-true lo (start c) d))
-    (λ d. f₅ (leb-false hi (start c) e) (ltb-false lo (start c) d)))
-
 filled-next : (cs : List RangeBuf) (e lo hi : ℕ) → e ≤ lo → Next e cs → Next e (filled cs lo hi)
 filled-next [] e lo hi a k = cond-elim (Next e) (ltb lo hi) (λ d. omega (arith, ltb-true lo hi d)) (λ d. tt)
 filled-next (c ∷ cs) e lo hi a k =
-    table-elim (Next e) c cs lo hi (λ x y. k) (λ x y z. omega arith) (λ x y z. omega arith) (λ x y. omega arith) (λ x y. k)
+    filled-elim (Next e) c cs lo hi (λ x y. k) (λ x y z. omega arith) (λ x y z. omega arith) (λ x y. omega arith) (λ x y. k)
 
 module _ (Cut : ℕ → Type 0) (top : ℕ) where
   pub filled-edges : (off : ℕ) (cs : List RangeBuf) (lo₀ lo hi : ℕ) → lo₀ ≤ lo → off ≤ lo → hi ≤ top → Chain lo₀ cs → Edges Cut top off cs
@@ -104,7 +86,7 @@ module _ (Cut : ℕ → Type 0) (top : ℕ) where
       let last : lo < hi → hi ≤ start c → Cut hi =
       λ y x. q y (λ h. either h (λ w. omega arith) (λ w. omega (arith, chain-held (end c) cs (hi - 1) (k .2) w))) in
       let atEnd : lo < end c → Low Cut off (max lo (end c)) = λ y. inl (subst Cut (omega arith) (g .1)) in
-      table-elim (Edges Cut top off) c cs lo hi
+      filled-elim (Edges Cut top off) c cs lo hi
       (λ x y. g)
       (λ x y z. (
         subst (Low Cut off) (omega arith) (first y (omega arith)),
@@ -189,7 +171,7 @@ pub filled-ready : (cs : List RangeBuf) (off lo hi : ℕ) → off ≤ lo → isR
 filled-ready [] off lo hi a e = absurd (false≢true e)
 filled-ready (c ∷ cs) off lo hi a e =
     let s = eqb-true (start c) off e in
-    table-elim (λ (x : List RangeBuf). isReady x off ≡ true) c cs lo hi
+    filled-elim (λ (x : List RangeBuf). isReady x off ≡ true) c cs lo hi
     (λ x y. e) (λ x y z. absurd (omega arith)) (λ x y z. absurd (omega arith)) (λ x y. absurd (omega arith)) (λ x y. e)
 
 pub marked-ready : (cs : List RangeBuf) (off f : ℕ) → isReady cs off ≡ true → isReady (markedAt cs f) off ≡ true

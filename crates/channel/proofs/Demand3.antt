@@ -13,7 +13,7 @@ use Rattle.refusal.specs.declared.EmitAnswer.{EmitAnswer}
 use Rattle.refusal.specs.declared.EmitAnswer.the-variants.{Emitted, Refused as NoBytes}
 use Rattle.refusal.specs.declared.Refusal.the-variants.{NoRoom, TableFull, Done as NothingReady}
 use Rattle.refusal.specs.declared.OptionU64.{OptionU64}
-use Rattle.refusal.specs.declared.OptionU64.the-variants.{None, Some}
+use Rattle.refusal.specs.declared.OptionU64.the-variants.{Some}
 use Rattle.range_buf.specs.declared.RangeBuf.{RangeBuf}
 use Rattle.tables.proofs.Tables.{by-test}
 use Rattle.recv_buf.specs.State.{Recv}
@@ -27,7 +27,7 @@ use Rattle.channel.proofs.Lists.{all-at, all-one}
 use Rattle.channel.proofs.SendSide.{Honest, final}
 use Rattle.channel.proofs.RecvSide.{Covers, RecvInv, done-all, judged, took-covers, reads-ready, reads-idle, answer-ready, answer-idle, reads-step}
 use Rattle.channel.proofs.Joined.{Inv, inv-fresh, inv-step, inv-run}
-use Rattle.tables.proofs.Tests.{clash}
+use Rattle.refusal.proofs.Answers.{known-is}
 use Rattle.refusal.specs.Rules as words
 
 -- ---- safety
@@ -78,10 +78,6 @@ begins y i f = record {
   covers = λ o h. all-one (λ g. Brings g o) _ (y .rcv .accepted) (i .recv-inv .covered) (f .bytes o h) (λ g b k. k o b);
   end-known = all-one (λ g. g .fin ≡ true) _ (y .rcv .accepted) (i .recv-inv .marks) (f .mark) (λ g m k. k m);
 }
-
-known-is : (f : OptionU64) → words.known f ≡ true → (x : ℕ) × (f ≡ Some x)
-known-is None e = clash (sym e)
-known-is (Some x) e = (x, refl)
 
 -- nothing is ready: the reader has it all
 ends : (y : System) → Inv y → Draining (y .snd .written) (sender (y .snd) .fin) (y .rcv) → recv.isReady (receiver (y .rcv) .chunks) (receiver (y .rcv) .off) ≡ false → Whole y

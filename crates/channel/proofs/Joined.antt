@@ -53,11 +53,11 @@ module _ (u : Setup) (p : Premises u) where
       ) in
       ap (λ (o : RecvOutcome). o .buf) (undecided t _ _)
 
-  sender-is : sender (fresh u .snd) ≡ send.newSend (u .sendRoom) (u .sendLimit)
+  pub sender-is : sender (fresh u .snd) ≡ send.newSend (u .sendRoom) (u .sendLimit)
   unfolding fresh
   sender-is = ap (λ b. sender (record { buf = b; arena = []; written = []; frames = [] })) sends ∙ view-of (send.newSend (u .sendRoom) (u .sendLimit))
 
-  receiver-is : receiver (fresh u .rcv) ≡ recv.newRecv (u .recvRoom) (u .recvLimit) (u .maxWindow)
+  pub receiver-is : receiver (fresh u .rcv) ≡ recv.newRecv (u .recvRoom) (u .recvLimit) (u .maxWindow)
   unfolding fresh
   receiver-is =
       ap (λ b. receiver (record { buf = b; arena = []; out = []; accepted = []; granted = [] })) receives
@@ -94,26 +94,28 @@ inv-send y i v z cap g = record {
 inv-recv : (y : System) → Inv y → (z : RecvEnd) → RecvStep (y .snd .written) (sender (y .snd) .fin) (y .rcv) z → Inv (onRecv y z)
 inv-recv y i z g = record { send-inv = i .send-inv; recv-inv = g .0; credit = omega (arith, i .credit, g .1) }
 
--- a frame or a limit that is named
-inv-named : {A : Type 0} (o : Option A) (f : A → System) (y : System) → Inv y → ((a : A) → o ≡ some a → Inv (f a)) → Inv (named o f y)
-inv-named none f y i h = i
-inv-named (some a) f y i h = h a refl
+-- a move that names what is not there does nothing
+pub named-elim : {B : Type 0} (P : System → Type 0) (o : Option B) (f : B → System) (y : System) → ((b : B) → o ≡ some b → P (f b)) → P y → P (named o f y)
+named-elim P none f y h k = k
+named-elim P (some b) f y h k = h b refl
 
 pub inv-step : (y : System) (m : Move) → Inv y → Inv (step y m)
 inv-step y (write input fin) i = inv-send y i 0 _ (omega arith) (writes-step (y .snd) (i .send-inv) input fin)
 inv-step y (emit out) i = inv-send y i 0 _ (omega arith) (emits-step (y .snd) (i .send-inv) out)
 inv-step y (deliver k) i =
-    inv-named (getElem? (y .snd .frames) k) _ y i
+    named-elim Inv (getElem? (y .snd .frames) k) _ y
     (λ f e. inv-recv y i _ (takes-step (y .snd .written) (sender (y .snd) .fin) (y .rcv) (i .recv-inv) f (all-at (Honest (y .snd .written) (sender (y .snd) .fin)) (y .snd .frames) k f e (i .send-inv .honest))))
+    i
 inv-step y (read out) i = inv-recv y i _ (reads-step (y .snd .written) (sender (y .snd) .fin) (y .rcv) (i .recv-inv) out)
 inv-step y (commit now) i = inv-recv y i _ (commits-step (y .snd .written) (sender (y .snd) .fin) (y .rcv) (i .recv-inv) now)
 inv-step y (tune now rtt) i = inv-recv y i _ (tunes-step (y .snd .written) (sender (y .snd) .fin) (y .rcv) (i .recv-inv) now rtt)
 inv-step y (raise k) i =
-    inv-named (getElem? (y .rcv .granted) k) _ y i
+    named-elim Inv (getElem? (y .rcv .granted) k) _ y
     (λ v e. inv-send y i v _ (all-at (λ (x : ℕ). x ≤ receiver (y .rcv) .flow .«max_data») (y .rcv .granted) k v e (i .recv-inv .grants)) (raises-step (y .snd) (i .send-inv) v))
-inv-step y (ack k) i = inv-named (getElem? (y .rcv .accepted) k) _ y i (λ f e. inv-send y i 0 _ (omega arith) (acks-step (y .snd) (i .send-inv) f))
-inv-step y (ackDrop k) i = inv-named (getElem? (y .rcv .accepted) k) _ y i (λ f e. inv-send y i 0 _ (omega arith) (ackDrops-step (y .snd) (i .send-inv) f))
-inv-step y (lose k) i = inv-named (getElem? (y .snd .frames) k) _ y i (λ f e. inv-send y i 0 _ (omega arith) (loses-step (y .snd) (i .send-inv) f))
+    i
+inv-step y (ack k) i = named-elim Inv (getElem? (y .rcv .accepted) k) _ y (λ f e. inv-send y i 0 _ (omega arith) (acks-step (y .snd) (i .send-inv) f)) i
+inv-step y (ackDrop k) i = named-elim Inv (getElem? (y .rcv .accepted) k) _ y (λ f e. inv-send y i 0 _ (omega arith) (ackDrops-step (y .snd) (i .send-inv) f)) i
+inv-step y (lose k) i = named-elim Inv (getElem? (y .snd .frames) k) _ y (λ f e. inv-send y i 0 _ (omega arith) (loses-step (y .snd) (i .send-inv) f)) i
 
 pub inv-run : (y : System) (ms : List Move) → Inv y → Inv (run y ms)
 inv-run y [] i = i

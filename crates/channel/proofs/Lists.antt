@@ -1,4 +1,4 @@
--- All of a list, and one of it. Assumes nothing.
+-- What all of a list have, and one of it. Assumes nothing.
 use mathlib.Core.Path.{_≡_, subst}
 use mathlib.Core.Logic.{inl, inr}
 use mathlib.Core.Option.{some}
@@ -20,6 +20,14 @@ all-map P Q (x ∷ xs) f k = (f x (k .0), all-map P Q xs f (k .1))
 pub all-append : {A : Type 0} (P : A → Type 0) (xs ys : List A) → All P xs → All P ys → All P (xs ++ ys)
 all-append P [] ys h k = k
 all-append P (x ∷ xs) ys h k = (h .0, all-append P xs ys (h .1) k)
+
+pub all-left : {A : Type 0} (P : A → Type 0) (xs ys : List A) → All P (xs ++ ys) → All P xs
+all-left P [] ys k = tt
+all-left P (x ∷ xs) ys k = (k .0, all-left P xs ys (k .1))
+
+pub all-last : {A : Type 0} (P : A → Type 0) (xs : List A) (x : A) → All P (xs ++ x ∷ []) → P x
+all-last P [] x k = k .0
+all-last P (y ∷ ys) x k = all-last P ys x (k .1)
 
 pub all-at : {A : Type 0} (P : A → Type 0) (xs : List A) (i : ℕ) (x : A) → getElem? xs i ≡ some x → All P xs → P x
 all-at P [] i x e k = let z : _≡_ {A = ℕ} 0 1 = cc in absurd (omega arith)

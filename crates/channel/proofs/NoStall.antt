@@ -15,27 +15,26 @@
 use mathlib.Core.Path.{_≡_, refl, sym, ap, subst, subst₂, _∙_}
 use mathlib.Core.Logic.{_⊎_, inl, inr}
 use mathlib.Core.Bool.{Bool, true, false, _&&_}
-use mathlib.Core.Option.{Option, none, some}
+use mathlib.Core.Option.{some}
 use mathlib.Core.List.{List, [], _∷_, _++_, append-nil}
-use Prim.Native.Nat.{ℕ, zero, suc, _+_, _*_, _≤_, _<_, max}
+use Prim.Native.Nat.{ℕ, _+_, _*_, _≤_, _<_, max}
 use native.Mathlib.Nat.{mul-zero}
 use native.Mathlib.Omega.{arith}
 use lib.Dec.{ltb}
 use lib.ListN.{length, take, getElem?}
-use borrow.Author.Tests.{le-ltb, ne-eqb}
 use Rattle.tables.proofs.Tables.{cond-elim}
 use Rattle.refusal.specs.Rules.{M, after as sentAfter, isAt as sentAt, after, known, isAt, withBytes}
 use Rattle.refusal.specs.declared.Answer.{Answer}
 use Rattle.refusal.specs.declared.Answer.the-variants.{Done, Refused}
-use Rattle.refusal.specs.declared.Refusal.{Refusal}
-use Rattle.refusal.specs.declared.Refusal.the-variants.{TableFull}
+use Rattle.refusal.specs.declared.Refusal.the-variants.{TableFull, Done as NothingReady}
+use Rattle.refusal.proofs.Answers.{not-both}
 use Rattle.arena.proofs.Laws.{length-held}
 use Rattle.ranges.specs.Rules.{memberOf}
 use Rattle.flowcontrol.specs.declared.FlowControl.{FlowControl}
 use Rattle.flowcontrol.specs.Rules.{committed, autotuned}
 use Rattle.send_buf.specs.declared.Outcome.{Outcome as SendOutcome}
 use Rattle.send_buf.specs.declared.EmitOutcome.{EmitOutcome as SentOutcome}
-use Rattle.send_buf.specs.State.{Send, viewOf as sendView, bufOf as sendBufOf, GoodSend}
+use Rattle.send_buf.specs.State.{Send, bufOf as sendBufOf, GoodSend}
 use Rattle.send_buf.specs.Rules as send
 use Rattle.send_buf.proofs.Views.{view-of}
 use Rattle.send_buf.proofs.Facts.{ack-only, emit-gives}
@@ -47,44 +46,17 @@ use Rattle.recv_buf.specs.Rfc9000.{Frame, endOf, Brings}
 use Rattle.recv_buf.proofs.Good.{view-buf}
 use Rattle.recv_buf.proofs.Lists.{held-ready}
 use Rattle.recv_buf.proofs.Kept.{wrote-good}
-use Rattle.channel.specs.System.{SendEnd, RecvEnd, System, sender, receiver, Setup, fresh, Premises, Move, write, emit, deliver, read, commit, tune, raise, ack, ackDrop, lose, withSend, writes, frameOf, emits, raises, acks, ackDrops, loses, acceptedBy, takes, reads, bytesOf, commits, tunes, step, run, named, onSend, onRecv}
+use Rattle.channel.specs.System.{SendEnd, RecvEnd, System, sender, receiver, Setup, fresh, Premises, Move, write, emit, deliver, read, commit, tune, raise, ack, ackDrop, lose, withSend, writes, frameOf, emits, raises, acks, ackDrops, loses, acceptedBy, takes, reads, bytesOf, commits, tunes, step, run, onSend, onRecv}
 use Rattle.channel.specs.Demand3.{onDelivery}
-use Rattle.channel.proofs.Lists.{all-at}
+use Rattle.channel.proofs.Lists.{All, all-map, all-append, all-left, all-last, all-at}
 use Rattle.channel.proofs.SendSide.{Honest}
 use Rattle.channel.proofs.RecvSide.{Follows, Covers, covers-stay, covers-new, wrote-same, took-covers}
-use Rattle.channel.proofs.Joined.{Inv, inv-fresh, inv-step, inv-run}
+use Rattle.channel.proofs.Joined.{Inv, sender-is, receiver-is, inv-fresh, named-elim, inv-step, inv-run}
 use Rattle.channel.proofs.Demand3.{safety}
 use Rattle.channel.proofs.Cuts.{Grid, OnGrid, on-grid}
-use Rattle.channel.proofs.Table.{Fair, Tidy, tidy-wrote, tidy-took, room-wrote, not-full, not-stalled, fits-at-off, Stalled, stalled-write, stalled-emit}
+use Rattle.channel.proofs.Table.{Fair, Tidy, tidy-wrote, tidy-took, not-full, not-stalled, fits-at-off, Stalled, stalled-write, stalled-emit}
 use Rattle.channel.proofs.Ends.{begin, Poised, poised-new, front-is, poised-wrote, begin-wrote, poised-sent, begin-sent, poised-acked, begin-acked, poised-dropped, begin-dropped, begin-drops, poised-lost, begin-lost, acked-lost}
 use Rattle.tables.proofs.Tests.{either, clash, and-true}
-
--- ---- each of a list
-
-abbrev pub Each : {A : Type 0} → (A → Type 0) → List A → Type 0
-Each {A} P xs = (k : ℕ) (x : A) → getElem? xs k ≡ some x → P x
-
-module _ {A : Type 0} (P : A → Type 0) where
-  pub each-none : Each P []
-  each-none k x e = let z : _≡_ {A = ℕ} 0 1 = cc in absurd (omega arith)
-
-  pub each-one : (x : A) → P x → Each P (x ∷ [])
-  each-one x h zero y e = let w : x ≡ y = cc in subst P w h
-  each-one x h (suc k) y e = each-none k y e
-
-  pub each-append : (xs ys : List A) → Each P xs → Each P ys → Each P (xs ++ ys)
-  each-append [] ys h k i y e = k i y e
-  each-append (x ∷ xs) ys h k zero y e = h zero y e
-  each-append (x ∷ xs) ys h k (suc i) y e = each-append xs ys (λ j z d. h (suc j) z d) k i y e
-
-  pub each-left : (xs ys : List A) → Each P (xs ++ ys) → Each P xs
-  each-left [] ys h i y e = each-none i y e
-  each-left (x ∷ xs) ys h zero y e = h zero y e
-  each-left (x ∷ xs) ys h (suc i) y e = each-left xs ys (λ j z d. h (suc j) z d) i y e
-
-  each-last : (xs : List A) (x : A) → Each P (xs ++ x ∷ []) → P x
-  each-last [] x h = h zero x refl
-  each-last (y ∷ ys) x h = each-last ys x (λ j z d. h (suc j) z d)
 
 -- ---- what a move does to the buffers' numbers and lists
 
@@ -187,11 +159,6 @@ reads-elim P x out f g h =
     go Done f = subst P (sym (view-buf went)) (f refl)
     go (Refused why) f = subst P (sym (view-buf (recv.refusedTake (receiver x)))) g
 
--- a move that names what is not there does nothing
-named-elim : {B : Type 0} (P : System → Type 0) (o : Option B) (f : B → System) (y : System) → ((b : B) → o ≡ some b → P (f b)) → P y → P (named o f y)
-named-elim P none f y h k = k
-named-elim P (some b) f y h k = h b refl
-
 -- ---- the rule
 
 -- the frame ends at a cut, a marked one at top
@@ -209,8 +176,8 @@ record Links (Cut : ℕ → Type 0) (top A : ℕ) (s : Send) (frames : List Fram
   pub tidy : Tidy Cut top r
   pub room : r .room ≡ A
   -- every frame emitted started well, every frame accepted ended well
-  pub starts : Each (Start Cut (begin s) r) frames
-  pub ends : Each (λ (f : Frame). Cut (endOf f)) got
+  pub starts : All (Start Cut (begin s) r) frames
+  pub ends : All (λ (f : Frame). Cut (endOf f)) got
   -- the receiver has what is acked; and the byte that the first chunk begins with, unless that is a cut
   pub acks : (o : ℕ) → memberOf o (s .acked) ≡ true → Covers r o
   pub first : Cut (begin s) ⊎ Covers r (begin s)
@@ -237,7 +204,7 @@ module _ (Cut : ℕ → Type 0) (L top A : ℕ) (grid : Grid Cut L top) where
       poised = p;
       tidy = k .tidy;
       room = k .room;
-      starts = λ i f e. either (k .starts i f e) (λ x. inl x) (λ x. inr (omega (arith, x .0), x .1));
+      starts = all-map (Start Cut (begin s) r) (Start Cut (begin t) r) frames (λ f e. either e (λ x. inl x) (λ x. inr (omega (arith, x .0), x .1))) (k .starts);
       ends = k .ends;
       acks = h;
       first = c;
@@ -250,12 +217,12 @@ module _ (Cut : ℕ → Type 0) (L top A : ℕ) (grid : Grid Cut L top) where
 
     -- the receiver: what it had it still has
     receiver-on : (r′ : Recv) → Tidy Cut top r′ → r′ .room ≡ r .room → ((o : ℕ) → Covers r o → Covers r′ o) → (got′ : List Frame)
-        → Each (λ (f : Frame). Cut (endOf f)) got′ → Links Cut top A s frames r′ got′
+        → All (λ (f : Frame). Cut (endOf f)) got′ → Links Cut top A s frames r′ got′
     receiver-on r′ t e h got′ c = record {
       poised = k .poised;
       tidy = t;
       room = e ∙ k .room;
-      starts = λ i f e. either (k .starts i f e) (λ x. inl x) (λ x. inr (x .0, h (f .from) (x .1)));
+      starts = all-map (Start Cut (begin s) r) (Start Cut (begin s) r′) frames (λ f e. either e (λ x. inl x) (λ x. inr (x .0, h (f .from) (x .1)))) (k .starts);
       ends = c;
       acks = λ o e. h o (k .acks o e);
       first = either (k .first) (λ x. inl x) (λ x. inr (h (begin s) x));
@@ -343,11 +310,11 @@ module _ (Cut : ℕ → Type 0) (L top A : ℕ) (grid : Grid Cut L top) where
       track-ackDrops = ackDrops-elim Sends (y .snd) f (λ e. sends-less (acked-good s g (f .from) (length (f .bytes)) e)) t
 
     -- an emit whose frame ends at a cut: it starts at the front
-    track-emits : (out : List ℕ) → Each (Ended Cut top) (emits (y .snd) out .frames) → Track Cut top A (onSend y (emits (y .snd) out))
+    track-emits : (out : List ℕ) → All (Ended Cut top) (emits (y .snd) out .frames) → Track Cut top A (onSend y (emits (y .snd) out))
     unfolding send.sent
     track-emits out =
-        emits-elim (λ (s′ : Send) (fs : List Frame). Each (Ended Cut top) fs → Links Cut top A s′ fs r got) (y .snd) out
-        (λ e h. sends-frame e (each-last (Ended Cut top) frames new h .high))
+        emits-elim (λ (s′ : Send) (fs : List Frame). All (Ended Cut top) fs → Links Cut top A s′ fs r got) (y .snd) out
+        (λ e h. sends-frame e (all-last (Ended Cut top) frames new h .high))
         (λ _. subst (λ (fs : List Frame). Links Cut top A s fs r got) (sym (append-nil frames)) t)
       where
         new : Frame
@@ -369,7 +336,7 @@ module _ (Cut : ℕ → Type 0) (L top A : ℕ) (grid : Grid Cut L top) where
               poised = p;
               tidy = k .tidy;
               room = k .room;
-              starts = each-append (Start Cut (begin (send.sent s n)) r) frames (new ∷ []) (k .starts) (each-one (Start Cut (begin (send.sent s n)) r) new here);
+              starts = all-append (Start Cut (begin (send.sent s n)) r) frames (new ∷ []) (k .starts) (here, tt);
               ends = k .ends;
               acks = k .acks;
               first = k .first;
@@ -388,9 +355,9 @@ module _ (Cut : ℕ → Type 0) (L top A : ℕ) (grid : Grid Cut L top) where
         takes-elim (λ (r : Recv) (got : List Frame). Links Cut top A s frames r got) (y .rcv) f
         (λ e. receiver-on s frames r got t r′
         (tidy-wrote Cut L top grid r (f .from) n (f .fin) (follows .good) (t .tidy) (fair-now (begin s) r f b c) (follows .reading))
-        (room-wrote r (f .from) n (f .fin))
+        (wrote-same (y .snd .written) (s .fin) r (y .rcv .arena) f follows h .2)
         (covers-stay (y .snd .written) (s .fin) r (y .rcv .arena) f follows h)
-        (got ++ f ∷ []) (each-append (λ (f : Frame). Cut (endOf f)) got (f ∷ []) (t .ends) (each-one (λ (f : Frame). Cut (endOf f)) f (c .high))))
+        (got ++ f ∷ []) (all-append (λ (f : Frame). Cut (endOf f)) got (f ∷ []) (t .ends) (c .high, tt)))
         (subst (λ (fs : List Frame). Links Cut top A s frames r fs) (sym (append-nil got)) t)
 
     -- a refused read changes nothing, since there was no reset
@@ -425,14 +392,14 @@ module _ (Cut : ℕ → Type 0) (L top A : ℕ) (grid : Grid Cut L top) where
   covered : (y : System) → Inv y → (k : ℕ) (f : Frame) → getElem? (y .rcv .accepted) k ≡ some f → (o : ℕ) → Brings f o → Covers (receiver (y .rcv)) o
   covered y i k f e = all-at (λ (f : Frame). (o : ℕ) → Brings f o → Covers (receiver (y .rcv)) o) (y .rcv .accepted) k f e (i .recv-inv .covered)
 
-  track-step : (y : System) (m : Move) → Inv y → Track Cut top A y → Each (Ended Cut top) (y .snd .frames) → Each (Ended Cut top) (step y m .snd .frames)
+  track-step : (y : System) (m : Move) → Inv y → Track Cut top A y → All (Ended Cut top) (y .snd .frames) → All (Ended Cut top) (step y m .snd .frames)
       → Track Cut top A (step y m)
   track-step y (write input fin) i t c d = track-writes y i t input fin
   track-step y (emit out) i t c d = track-emits y i t out d
   track-step y (deliver k) i t c d =
       named-elim (Track Cut top A) (getElem? (y .snd .frames) k) (λ f. onRecv y (takes (y .rcv) f)) y
       (λ f e. track-takes y i t f
-      (all-at (Honest (y .snd .written) (sender (y .snd) .fin)) (y .snd .frames) k f e (i .send-inv .honest)) (c k f e) (t .starts k f e))
+      (all-at (Honest (y .snd .written) (sender (y .snd) .fin)) (y .snd .frames) k f e (i .send-inv .honest)) (all-at (Ended Cut top) (y .snd .frames) k f e c) (all-at (Start Cut (begin (sender (y .snd))) (receiver (y .rcv))) (y .snd .frames) k f e (t .starts)))
       t
   track-step y (read out) i t c d = track-reads y i t out
   track-step y (commit now) i t c d = track-commits y i t now
@@ -441,38 +408,38 @@ module _ (Cut : ℕ → Type 0) (L top A : ℕ) (grid : Grid Cut L top) where
       named-elim (Track Cut top A) (getElem? (y .rcv .granted) k) (λ limit. onSend y (raises (y .snd) limit)) y (λ limit e. track-raises y i t limit) t
   track-step y (ack k) i t c d =
       named-elim (Track Cut top A) (getElem? (y .rcv .accepted) k) (λ f. onSend y (acks (y .snd) f)) y
-      (λ f e. track-acks y i t f (t .ends k f e) (covered y i k f e)) t
+      (λ f e. track-acks y i t f (all-at (λ (f : Frame). Cut (endOf f)) (y .rcv .accepted) k f e (t .ends)) (covered y i k f e)) t
   track-step y (ackDrop k) i t c d =
       named-elim (Track Cut top A) (getElem? (y .rcv .accepted) k) (λ f. onSend y (ackDrops (y .snd) f)) y
-      (λ f e. track-ackDrops y i t f (t .ends k f e) (covered y i k f e)) t
+      (λ f e. track-ackDrops y i t f (all-at (λ (f : Frame). Cut (endOf f)) (y .rcv .accepted) k f e (t .ends)) (covered y i k f e)) t
   track-step y (lose k) i t c d =
       named-elim (Track Cut top A) (getElem? (y .snd .frames) k) (λ f. onSend y (loses (y .snd) f)) y
-      (λ f e. track-loses y i t f (c k f e) (t .starts k f e)) t
+      (λ f e. track-loses y i t f (all-at (Ended Cut top) (y .snd .frames) k f e c) (all-at (Start Cut (begin (sender (y .snd))) (receiver (y .rcv))) (y .snd .frames) k f e (t .starts))) t
 
   -- frames are only added
-  frames-step : (P : Frame → Type 0) (y : System) (m : Move) → Each P (step y m .snd .frames) → Each P (y .snd .frames)
+  frames-step : (P : Frame → Type 0) (y : System) (m : Move) → All P (step y m .snd .frames) → All P (y .snd .frames)
   unfolding writes emits raises acks ackDrops loses
   frames-step P y (write input fin) h = h
-  frames-step P y (emit out) h = each-left P (y .snd .frames) _ h
+  frames-step P y (emit out) h = all-left P (y .snd .frames) _ h
   frames-step P y (deliver k) h =
-      named-elim (λ (z : System). Each P (z .snd .frames) → Each P (y .snd .frames)) (getElem? (y .snd .frames) k) (λ f. onRecv y (takes (y .rcv) f)) y (λ f e g. g) (λ g. g) h
+      named-elim (λ (z : System). All P (z .snd .frames) → All P (y .snd .frames)) (getElem? (y .snd .frames) k) (λ f. onRecv y (takes (y .rcv) f)) y (λ f e g. g) (λ g. g) h
   frames-step P y (read out) h = h
   frames-step P y (commit now) h = h
   frames-step P y (tune now rtt) h = h
   frames-step P y (raise k) h =
-      named-elim (λ (z : System). Each P (z .snd .frames) → Each P (y .snd .frames)) (getElem? (y .rcv .granted) k) (λ limit. onSend y (raises (y .snd) limit)) y (λ f e g. g) (λ g. g) h
+      named-elim (λ (z : System). All P (z .snd .frames) → All P (y .snd .frames)) (getElem? (y .rcv .granted) k) (λ limit. onSend y (raises (y .snd) limit)) y (λ f e g. g) (λ g. g) h
   frames-step P y (ack k) h =
-      named-elim (λ (z : System). Each P (z .snd .frames) → Each P (y .snd .frames)) (getElem? (y .rcv .accepted) k) (λ f. onSend y (acks (y .snd) f)) y (λ f e g. g) (λ g. g) h
+      named-elim (λ (z : System). All P (z .snd .frames) → All P (y .snd .frames)) (getElem? (y .rcv .accepted) k) (λ f. onSend y (acks (y .snd) f)) y (λ f e g. g) (λ g. g) h
   frames-step P y (ackDrop k) h =
-      named-elim (λ (z : System). Each P (z .snd .frames) → Each P (y .snd .frames)) (getElem? (y .rcv .accepted) k) (λ f. onSend y (ackDrops (y .snd) f)) y (λ f e g. g) (λ g. g) h
+      named-elim (λ (z : System). All P (z .snd .frames) → All P (y .snd .frames)) (getElem? (y .rcv .accepted) k) (λ f. onSend y (ackDrops (y .snd) f)) y (λ f e g. g) (λ g. g) h
   frames-step P y (lose k) h =
-      named-elim (λ (z : System). Each P (z .snd .frames) → Each P (y .snd .frames)) (getElem? (y .snd .frames) k) (λ f. onSend y (loses (y .snd) f)) y (λ f e g. g) (λ g. g) h
+      named-elim (λ (z : System). All P (z .snd .frames) → All P (y .snd .frames)) (getElem? (y .snd .frames) k) (λ f. onSend y (loses (y .snd) f)) y (λ f e g. g) (λ g. g) h
 
-  frames-run : (P : Frame → Type 0) (ms : List Move) (y : System) → Each P (run y ms .snd .frames) → Each P (y .snd .frames)
+  frames-run : (P : Frame → Type 0) (ms : List Move) (y : System) → All P (run y ms .snd .frames) → All P (y .snd .frames)
   frames-run P [] y h = h
   frames-run P (m ∷ ms) y h = frames-step P y m (frames-run P ms (step y m) h)
 
-  track-run : (ms : List Move) (y : System) → Inv y → Track Cut top A y → Each (Ended Cut top) (run y ms .snd .frames) → Track Cut top A (run y ms)
+  track-run : (ms : List Move) (y : System) → Inv y → Track Cut top A y → All (Ended Cut top) (run y ms .snd .frames) → Track Cut top A (run y ms)
   track-run [] y i t h = t
   track-run (m ∷ ms) y i t h =
       let h₁ = frames-run (Ended Cut top) ms (step y m) h in
@@ -481,20 +448,8 @@ module _ (Cut : ℕ → Type 0) (L top A : ℕ) (grid : Grid Cut L top) where
 -- ---- the theorems
 
 module _ (u : Setup) (p : Premises u) where
-  fine-send : send.created (u .sendLimit) (u .sendRoom) .buf ≡ sendBufOf (send.newSend (u .sendRoom) (u .sendLimit))
-  unfolding send.created
-  fine-send =
-      let z : u .sendRoom ≡ 0 → ⊥ = λ e. omega (arith, p .send-room) in
-      rw (ne-eqb (u .sendRoom) 0 z, le-ltb 65536 (u .sendRoom) (p .send-room-in), le-ltb M (u .sendLimit) (omega (arith, p .starting, p .in-window, p .window-in)))
-
-  fine-recv : recv.created (u .recvLimit) (u .maxWindow) (u .recvRoom) .buf ≡ bufOf (recv.newRecv (u .recvRoom) (u .recvLimit) (u .maxWindow))
-  unfolding recv.created
-  fine-recv =
-      let z : u .recvRoom ≡ 0 → ⊥ = λ e. omega (arith, p .recv-room) in
-      rw (ne-eqb (u .recvRoom) 0 z, le-ltb 65536 (u .recvRoom) (p .recv-room-in), le-ltb M (u .recvLimit) (omega (arith, p .in-window, p .window-in)), le-ltb M (u .maxWindow) (p .window-in))
-
   module _ (Cut : ℕ → Type 0) (L top : ℕ) (grid : Grid Cut L top) (zero-cut : Cut 0) (ms : List Move)
-      (rule : Each (Ended Cut top) (run (fresh u) ms .snd .frames)) where
+      (rule : All (Ended Cut top) (run (fresh u) ms .snd .frames)) where
     abbrev y : System
     y = run (fresh u) ms
 
@@ -503,14 +458,12 @@ module _ (u : Setup) (p : Premises u) where
     track-fresh =
         let s : Send = send.newSend (u .sendRoom) (u .sendLimit) in
         let r : Recv = recv.newRecv (u .recvRoom) (u .recvLimit) (u .maxWindow) in
-        let es : s ≡ sender (fresh u .snd) = sym (ap sendView fine-send ∙ view-of s) in
-        let er : r ≡ receiver (fresh u .rcv) = sym (ap recvView fine-recv ∙ view-buf r) in
-        subst₂ (λ (s : Send) (r : Recv). Links Cut top (u .recvRoom) s [] r []) es er record {
+        subst₂ (λ (s : Send) (r : Recv). Links Cut top (u .recvRoom) s [] r []) (sym (sender-is u p)) (sym (receiver-is u p)) record {
           poised = poised-new Cut (u .sendRoom) (u .sendLimit);
           tidy = record { edges = tt; stands = inl zero-cut };
           room = refl;
-          starts = each-none (Start Cut (begin s) r);
-          ends = each-none (λ (f : Frame). Cut (endOf f));
+          starts = tt;
+          ends = tt;
           acks = λ o e. let z : _≡_ {A = ℕ} 0 1 = cc in absurd (omega arith);
           first = inl zero-cut;
         }
@@ -525,7 +478,8 @@ module _ (u : Setup) (p : Premises u) where
     follow = inv .recv-inv .follows
 
     fair-sent : (k : ℕ) (f : Frame) → getElem? (y .snd .frames) k ≡ some f → Fair Cut top (receiver (y .rcv)) (f .from) (length (f .bytes)) (f .fin)
-    fair-sent k f e = fair-now Cut L top (u .recvRoom) grid (begin (sender (y .snd))) (receiver (y .rcv)) f (tracked .starts k f e) (rule k f e)
+    fair-sent k f e = fair-now Cut L top (u .recvRoom) grid (begin (sender (y .snd))) (receiver (y .rcv)) f
+        (all-at (Start Cut (begin (sender (y .snd))) (receiver (y .rcv))) (y .snd .frames) k f e (tracked .starts)) (all-at (Ended Cut top) (y .snd .frames) k f e rule)
 
     -- A at most 63 L: no frame ever emitted, delivered now, is refused for the table
     pub ends-suffice : u .recvRoom ≤ 63 * L → (k : ℕ) (f : Frame) → getElem? (y .snd .frames) k ≡ some f → onDelivery (y .rcv) f ≡ Refused TableFull → ⊥
@@ -563,7 +517,7 @@ module _ (u : Setup) (p : Premises u) where
         (λ x. held-ready (t .chunks) (t .off) chain x))
 
   -- the same, where every frame ends at a multiple of L or at `top`, the final size
-  module _ (L top : ℕ) (ms : List Move) (rule : Each (Ended (OnGrid L top) top) (run (fresh u) ms .snd .frames)) where
+  module _ (L top : ℕ) (ms : List Move) (rule : All (Ended (OnGrid L top) top) (run (fresh u) ms .snd .frames)) where
     zero-on : OnGrid L top 0
     zero-on = (omega arith, inr (0, sym (mul-zero L)))
 
@@ -592,9 +546,6 @@ pub record Stuck (x x′ : RecvEnd) : Type 0 where
   pub same-off : receiver x′ .off ≡ receiver x .off
   pub same-out : x′ .out ≡ x .out
 
-not-done : {A : Type 0} {said : Answer} {why : Refusal} → said ≡ Done → said ≡ Refused why → A
-not-done d e = let z : _≡_ {A = ℕ} 0 1 = cc (d, e) in absurd (omega arith)
-
 abbrev Kept : RecvEnd → Recv → Type 0
 Kept x r = Stalled r × (r .chunks ≡ receiver x .chunks) × (r .off ≡ receiver x .off)
 
@@ -622,7 +573,7 @@ module _ (x : RecvEnd) (g : Stalled (receiver x)) where
   stuck-reads out =
       let h = stalled-emit (receiver x) (length out) g in
       stuck (reads x out)
-      (reads-elim (Kept x) x out (λ e. not-done e (h .0)) (subst (Kept x) (sym (h .1)) (g, refl, refl)) (g, refl, refl))
+      (reads-elim (Kept x) x out (λ e. not-both _ NothingReady e (h .0)) (subst (Kept x) (sym (h .1)) (g, refl, refl)) (g, refl, refl))
       (ap (λ (k : ℕ). x .out ++ take k (recv.emittedOut (receiver x) (x .arena) out)) (read-none out) ∙ append-nil (x .out))
 
   kept-flow : (w : FlowControl) → Kept x (recv.withFlow (receiver x) w)

@@ -4,12 +4,12 @@ use mathlib.Core.Path.{_≡_, refl, sym, ap, subst, _∙_}
 use mathlib.Core.Logic.{_⊎_, inl, inr}
 use mathlib.Core.Bool.{Bool, true, false, cond, not, _&&_, false≢true}
 use mathlib.Core.List.{List, [], _∷_, _++_, append-nil}
-use Prim.Native.Nat.{ℕ, _+_, _≤_, _<_, max}
+use Prim.Native.Nat.{ℕ, _+_, _≤_, _<_}
 use native.Mathlib.Omega.{arith}
 use lib.Dec.{ltb, eqb}
 use lib.ListN.{length, getD, take, drop, length-append, List·getD-append}
 use lib.Seq.{take-append-le, take-at}
-use borrow.Author.Tests.{eqb-true, ne-eqb, eq-eqb, le-ltb, not-true}
+use borrow.Author.Tests.{ne-eqb, eq-eqb, le-ltb, not-true}
 use Rattle.refusal.specs.Rules.{M}
 use Rattle.refusal.specs.declared.Answer.{Answer}
 use Rattle.refusal.specs.declared.Answer.the-variants.{Done, Refused}
@@ -19,7 +19,6 @@ use Rattle.refusal.specs.declared.OptionU64.{OptionU64}
 use Rattle.refusal.specs.declared.OptionU64.the-variants.{None, Some}
 use Rattle.arena.specs.Rules.{byteAt, held}
 use Rattle.arena.proofs.Laws.{length-held}
-use Rattle.range_buf.specs.declared.RangeBuf.{RangeBuf}
 use Rattle.flowcontrol.specs.declared.FlowControl.{FlowControl}
 use Rattle.flowcontrol.specs.State.{Good as GoodFlow}
 use Rattle.flowcontrol.specs.Rules as flow
@@ -34,6 +33,7 @@ use Rattle.recv_buf.proofs.Lists as chunk
 use Rattle.recv_buf.proofs.Bytes.{kept-length, kept-stays, kept-new}
 use Rattle.flowcontrol.proofs.Steady.{Steady, fresh-steady, consumed-steady, committed-steady, autotuned-steady}
 use Rattle.flowcontrol.proofs.Kept.{committed-good, autotuned-good}
+use Rattle.recv_buf.proofs.Frames.{after-held, wrote-elim, held-wrote}
 use Rattle.recv_buf.proofs.Kept.{new-good, Accepted, accepted, fits-room, wrote-good, tookOut-good, flow-good}
 use Rattle.channel.specs.System.{RecvEnd, receiver, bytesOf, acceptedBy, takes, reads, commits, tunes}
 use Rattle.channel.specs.Demand3.{onRead}
@@ -110,45 +110,21 @@ module _ (W : List ℕ) (sf : OptionU64) (r : Recv) (ar : List ℕ) (f : Frame) 
   abbrev now : List ℕ
   now = recv.keptNew r ar (f .from) (f .bytes)
 
-  -- the buffer once the frame is kept, and after it was accepted: the same, unless it has neither bytes nor mark
-  abbrev keeping : Recv
-  keeping = recv.withEnds (recv.withChunks r (recv.chunksAfter r (f .from) n (f .fin))) (r .off) (max (r .len) (f .from + n)) (words.finWith (r .fin) (f .from + n) (f .fin))
-
-  wrote-elim : (P : Recv → Type 0) → ((eqb n 0 && not (f .fin)) ≡ true → P r) → P keeping → P (recv.wrote r (f .from) n (f .fin))
-  unfolding recv.wrote
-  wrote-elim P a b =
-      cond-elim P (eqb n 0 && not (f .fin)) a
-      (λ e. subst (λ (d : Bool). P (cond d (recv.withEnds r (max (r .len) (f .from + n)) (max (r .len) (f .from + n)) (words.finWith (r .fin) (f .from + n) (f .fin))) keeping)) (sym (g .reading)) b)
-
-  -- what is kept then was kept before, or is the frame's
-  kept-held : (o : ℕ) → Held (recv.chunksAfter r (f .from) n (f .fin)) o → Held (r .chunks) o ⊎ ((max (f .from) (r .off) ≤ o) × (o < f .from + n))
-  kept-held o =
-      cond-elim (λ (cs : List RangeBuf). Held cs o → Held (r .chunks) o ⊎ ((max (f .from) (r .off) ≤ o) × (o < f .from + n))) (eqb n 0)
-      (λ _. cond-elim (λ (cs : List RangeBuf). Held cs o → Held (r .chunks) o ⊎ ((max (f .from) (r .off) ≤ o) × (o < f .from + n))) (not (words.known (r .fin)) && f .fin)
-      (λ _ k. inl (chunk.marked-held (r .chunks) (f .from) o k)) (λ _ k. inl k))
-      (λ _ k. chunk.filled-held (r .chunks) (max (f .from) (r .off)) (f .from + n) o k)
-
-  held-kept : (o : ℕ) → Held (r .chunks) o → Held (recv.chunksAfter r (f .from) n (f .fin)) o
-  held-kept o k =
-      cond-elim (λ (cs : List RangeBuf). Held cs o) (eqb n 0)
-      (λ _. cond-elim (λ (cs : List RangeBuf). Held cs o) (not (words.known (r .fin)) && f .fin) (λ _. chunk.held-marked (r .chunks) (f .from) o k) (λ _. k))
-      (λ _. chunk.held-filled (r .chunks) (max (f .from) (r .off)) (f .from + n) o k)
+  -- what it leaves alone: the window, how far was handed out, and the arena's length
+  pub wrote-same : let y = recv.wrote r (f .from) n (f .fin) in (y .flow ≡ r .flow) × (y .off ≡ r .off) × (y .room ≡ r .room)
+  wrote-same =
+      wrote-elim r (f .from) n (f .fin) (λ (x : Recv). (x .flow ≡ r .flow) × (x .off ≡ r .off) × (x .room ≡ r .room)) (g .reading)
+      (λ _. (refl, refl, refl)) (refl, refl, refl)
 
   pub covers-stay : (o : ℕ) → Covers r o → Covers (recv.wrote r (f .from) n (f .fin)) o
-  covers-stay o c = wrote-elim (λ (x : Recv). Covers x o) (λ _. c) (either c (λ x. inl x) (λ x. inr (held-kept o x)))
+  covers-stay o c = either c (λ x. inl (omega (arith, wrote-same .1))) (λ x. inr (held-wrote r (f .from) n (f .fin) (g .reading) o (inl x)))
 
   pub covers-new : (o : ℕ) → Brings f o → Covers (recv.wrote r (f .from) n (f .fin)) o
-  covers-new o b =
-      wrote-elim (λ (x : Recv). Covers x o)
-      (λ e. absurd (omega (arith, eqb-true n 0 (and-true (eqb n 0) (not (f .fin)) e .0))))
-      (cases o (r .off) (λ lt. inl lt)
-      (λ le. inr (cond-elim (λ (cs : List RangeBuf). Held cs o) (eqb n 0)
-      (λ e. absurd (omega (arith, eqb-true n 0 e)))
-      (λ _. chunk.filled-whole (r .chunks) (max (f .from) (r .off)) (f .from + n) o (omega arith) (b .1)))))
+  covers-new o b = cases o (r .off) (λ lt. inl (omega (arith, wrote-same .1))) (λ le. inr (held-wrote r (f .from) n (f .fin) (g .reading) o (inr (le, b .0, b .1))))
 
   pub known-after : (words.known (r .fin) ≡ true) ⊎ (f .fin ≡ true) → words.known (recv.wrote r (f .from) n (f .fin) .fin) ≡ true
   known-after k =
-      wrote-elim (λ (x : Recv). words.known (x .fin) ≡ true)
+      wrote-elim r (f .from) n (f .fin) (λ (x : Recv). words.known (x .fin) ≡ true) (g .reading)
       (λ e. either k (λ x. x) (λ x. clash (sym x ∙ not-true (f .fin) (and-true (eqb n 0) (not (f .fin)) e .1))))
       (go (f .fin) k)
     where
@@ -157,15 +133,12 @@ module _ (W : List ℕ) (sf : OptionU64) (r : Recv) (ar : List ℕ) (f : Frame) 
       go false (inl k) = k
       go false (inr k) = absurd (false≢true k)
 
-  pub wrote-same : (recv.wrote r (f .from) n (f .fin) .flow ≡ r .flow) × (recv.wrote r (f .from) n (f .fin) .off ≡ r .off)
-  wrote-same = wrote-elim (λ (x : Recv). (x .flow ≡ r .flow) × (x .off ≡ r .off)) (λ _. (refl, refl)) (refl, refl)
-
   module _ (said : recv.writeJudged r (length ar) (f .from) n (f .fin) ≡ Done) where
     ok : Accepted r (length ar) (f .from) n (f .fin)
     ok = accepted r (length ar) (f .from) n (f .fin) said
 
     fits : 0 < n → f .from + n ≤ r .off + length ar
-    fits k = omega (arith, fits-room r (f .from) n (f .fin) (g .good) (g .reading) (ok .room) k, ok .size)
+    fits k = omega (arith, fits-room r (f .from) n (g .reading) (ok .room) k, ok .size)
 
     stays : (o : ℕ) → Held (r .chunks) o → byteAt now o ≡ getD W o 0
     stays o k =
@@ -176,13 +149,13 @@ module _ (W : List ℕ) (sf : OptionU64) (r : Recv) (ar : List ℕ) (f : Frame) 
     kept-agree : (o : ℕ) → Held (recv.chunksAfter r (f .from) n (f .fin)) o → byteAt now o ≡ getD W o 0
     kept-agree o k =
         by-test (recv.holds (r .chunks) o) (λ e. stays o (chunk.holds-held (r .chunks) o e))
-        (λ e. either (kept-held o k) (λ x. stays o x)
-        (λ p. kept-new r ar (f .from) (f .bytes) o (ok .some-room) (fits (omega arith)) (omega arith, chunk.holds-not (r .chunks) o e) (omega arith) (p .1)
-        ∙ agrees-at W (f .from) (f .bytes) o (h .agrees) (omega arith) (p .1)))
+        (λ e. either (after-held r (f .from) n (f .fin) o k) (λ x. stays o x)
+        (λ p. kept-new r ar (f .from) (f .bytes) o (ok .some-room) (fits (omega arith)) (p .0, chunk.holds-not (r .chunks) o e) (p .1) (p .2)
+        ∙ agrees-at W (f .from) (f .bytes) o (h .agrees) (p .1) (p .2)))
 
     pub wrote-follows : Follows W sf (recv.wrote r (f .from) n (f .fin)) now
     wrote-follows =
-        wrote-elim (λ (x : Recv). GoodRecv x → Follows W sf x now)
+        wrote-elim r (f .from) n (f .fin) (λ (x : Recv). GoodRecv x → Follows W sf x now) (g .reading)
         (λ _ w. record {
           good = w;
           some-room = g .some-room;

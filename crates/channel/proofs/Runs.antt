@@ -14,7 +14,7 @@ use Rattle.refusal.specs.declared.EmitAnswer.{EmitAnswer}
 use Rattle.refusal.specs.declared.EmitAnswer.the-variants.{Refused as NoBytes}
 use Rattle.refusal.specs.declared.Refusal.the-variants.{Done as NothingReady}
 use Rattle.refusal.specs.declared.OptionU64.{OptionU64}
-use Rattle.refusal.specs.declared.OptionU64.the-variants.{None, Some}
+use Rattle.refusal.specs.declared.OptionU64.the-variants.{Some}
 use Rattle.arena.specs.Rules.{kept, held}
 use Rattle.tables.proofs.Tables.{cases}
 use Rattle.send_buf.specs.State.{bufOf as sendBuf}
@@ -28,6 +28,7 @@ use Rattle.channel.proofs.Lists.{All}
 use Rattle.channel.proofs.Demand3.{completeness}
 use Rattle.tables.proofs.Tests.{either, clash, and-true, or-true}
 use Rattle.refusal.specs.Rules as words
+use Rattle.refusal.proofs.Answers.{known-is}
 
 -- ---- what is computed: a test for `Finished`, and what there is to see at the end
 
@@ -63,10 +64,6 @@ brings-all fs (suc n) e o h =
 ends-one : (fs : List Frame) → ends fs ≡ true → OneOf (λ f. f .fin ≡ true) fs
 ends-one [] e = clash (sym e)
 ends-one (f ∷ fs) e = either (or-true (f .fin) (ends fs) e) (λ h. inl h) (λ h. inr (ends-one fs h))
-
-known-is : (f : OptionU64) → words.known f ≡ true → (x : ℕ) × (f ≡ Some x)
-known-is None e = clash (sym e)
-known-is (Some x) e = (x, refl)
 
 -- the test is right
 pub finished : (y : System) → isFinished y ≡ true → Finished y

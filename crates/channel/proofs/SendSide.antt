@@ -22,10 +22,11 @@ use Rattle.send_buf.specs.declared.EmitOutcome.{EmitOutcome}
 use Rattle.send_buf.specs.State.{Send, viewOf, bufOf, base, GoodSend}
 use Rattle.send_buf.specs.Rules as send
 use Rattle.send_buf.proofs.Views.{view-of}
-use Rattle.send_buf.proofs.Judged.{after-elim, Writes, writes as writes-told}
-use Rattle.send_buf.proofs.Chunks.{adj-le, adj-base, adj-append, adj-cut, adj-behind, adj-back, base-sent}
+use Rattle.refusal.proofs.Answers.{after-elim}
+use Rattle.send_buf.proofs.Judged.{Writes, writes as writes-told}
+use Rattle.send_buf.proofs.Chunks.{adj-le, adj-base, adj-behind, adj-back, base-sent}
 use Rattle.send_buf.proofs.Facts.{skip-nothing, front-low, reached, emit-gives}
-use Rattle.send_buf.proofs.Kept.{new-good, wrote-good, sent-good, acked-good, dropped-good, dropTo-in, lost-good, raised-good}
+use Rattle.send_buf.proofs.Kept.{new-good, laid, wrote-good, sent-good, acked-good, dropped-good, dropTo-in, lost-good, raised-good}
 use Rattle.recv_buf.specs.Rfc9000.{Frame, endOf}
 use Rattle.channel.specs.System.{SendEnd, sender, countOf, frameOf, writes, emits, raises, acks, ackDrops, loses}
 use Rattle.channel.proofs.Stream.{Agrees, agrees-more, agrees-seam, agrees-held, agrees-kept}
@@ -85,9 +86,7 @@ module _ (W : List ℕ) (s : Send) (ar : List ℕ) (input : List ℕ) (fin : Boo
 
   same-base : base (s .chunks ++ send.cut (send.pieces k) (s .off) k) (s .off + k) ≡ lo
   same-base =
-      adj-base (base (s .chunks) (s .off)) (s .chunks ++ send.cut (send.pieces k) (s .off) k) (s .off + k)
-      (adj-append (base (s .chunks) (s .off)) (s .chunks) (s .off) (send.cut (send.pieces k) (s .off) k) (s .off + k) (g .good .adjoin)
-      (adj-cut (send.pieces k) (s .off) k (omega arith) (omega arith)))
+      adj-base (base (s .chunks) (s .off)) (s .chunks ++ send.cut (send.pieces k) (s .off) k) (s .off + k) (laid s (g .good) k)
 
   long : length (take k input) ≡ k
   long = length-take k input ∙ omega (arith, skip-nothing s (g .good) (length input))

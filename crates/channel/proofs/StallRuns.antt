@@ -10,7 +10,7 @@
 --   long-frames-stall    a least frame length does not help: frames of 10 bytes and more, A = 83
 --   short-writes-stall   nor do frames as long as the writes allow: 36 frames of 10 bytes, then 29 writes of one byte, each sent at once
 --   held-back-ends       the rule can be kept: writes of 1, 2 and 2 bytes, frames that end at 2, 4 and at the final size 5
-use mathlib.Core.Path.{_≡_, refl, sym, ap, subst, _∙_}
+use mathlib.Core.Path.{_≡_, refl, sym, ap, _∙_}
 use mathlib.Core.Logic.{inl, inr}
 use mathlib.Core.Bool.{Bool, true, false, not, _&&_, _||_}
 use mathlib.Core.Option.{some}
@@ -35,9 +35,10 @@ use Rattle.recv_buf.specs.Rules as recv
 use Rattle.recv_buf.specs.Rfc9000.{Frame, endOf}
 use Rattle.channel.specs.System.{System, receiver, Setup, fresh, Premises, Move, write, emit, deliver, read, lose, writes, emits, loses, takes, reads, run}
 use Rattle.channel.specs.Demand3.{onDelivery, onRead}
+use Rattle.channel.proofs.Lists.{All}
 use Rattle.channel.proofs.Cuts.{OnGrid}
 use Rattle.channel.proofs.Table.{Lasting, Stalled}
-use Rattle.channel.proofs.NoStall.{Each, each-none, Ended, stalled-run}
+use Rattle.channel.proofs.NoStall.{Ended, stalled-run}
 use Rattle.tables.proofs.Tests.{either, and-true, or-true, clash}
 
 -- ---- the schedules' parts, and tests that compute
@@ -77,18 +78,16 @@ abbrev endsWell : ℕ → ℕ → List Frame → Bool
 endsWell L top [] = true
 endsWell L top (f ∷ fs) = leb (endOf f) top && (eqb (endOf f) top || eqb (endOf f % L) 0 && not (f .fin)) && endsWell L top fs
 
-ends-well : (L top : ℕ) (fs : List Frame) → endsWell L top fs ≡ true → Each (Ended (OnGrid L top) top) fs
-ends-well L top [] h k g e = each-none (Ended (OnGrid L top) top) k g e
-ends-well L top (f ∷ fs) h (suc k) g e =
-    ends-well L top fs (and-true (leb (endOf f) top && (eqb (endOf f) top || eqb (endOf f % L) 0 && not (f .fin))) (endsWell L top fs) h .1) k g e
-ends-well L top (f ∷ fs) h zero g e = let w : f ≡ g = cc in subst (Ended (OnGrid L top) top) w here
+ends-well : (L top : ℕ) (fs : List Frame) → endsWell L top fs ≡ true → All (Ended (OnGrid L top) top) fs
+ends-well L top [] h = tt
+ends-well L top (f ∷ fs) h = (here, ends-well L top fs (both .1))
   where
-    p : (leb (endOf f) top && (eqb (endOf f) top || eqb (endOf f % L) 0 && not (f .fin))) ≡ true
-    p = and-true (leb (endOf f) top && (eqb (endOf f) top || eqb (endOf f % L) 0 && not (f .fin))) (endsWell L top fs) h .0
+    both : ((leb (endOf f) top && (eqb (endOf f) top || eqb (endOf f % L) 0 && not (f .fin))) ≡ true) × (endsWell L top fs ≡ true)
+    both = and-true (leb (endOf f) top && (eqb (endOf f) top || eqb (endOf f % L) 0 && not (f .fin))) (endsWell L top fs) h
 
     here : Ended (OnGrid L top) top f
     here =
-        let q = and-true (leb (endOf f) top) (eqb (endOf f) top || eqb (endOf f % L) 0 && not (f .fin)) p in
+        let q = and-true (leb (endOf f) top) (eqb (endOf f) top || eqb (endOf f % L) 0 && not (f .fin)) (both .0) in
         let low = leb-true (endOf f) top (q .0) in
         either (or-true (eqb (endOf f) top) (eqb (endOf f % L) 0 && not (f .fin)) (q .1))
         (λ d. let x = eqb-true (endOf f) top d in record { high = (low, inl x); at-top = λ _. x })
@@ -161,7 +160,7 @@ mark = record { from = 130; bytes = []; fin = true }
 abbrev sharp63 : System
 sharp63 = run (fresh (ends 130 130 127)) (even ++ deliver 0 ∷ read (0 ∷ []) ∷ deliveries 63 1)
 
-full-at-63L : Premises (ends 130 130 127) × (ends 130 130 127 .recvRoom ≡ 63 * 2 + 1) × Each (Ended (OnGrid 2 130) 130) (sharp63 .snd .frames)
+full-at-63L : Premises (ends 130 130 127) × (ends 130 130 127 .recvRoom ≡ 63 * 2 + 1) × All (Ended (OnGrid 2 130) 130) (sharp63 .snd .frames)
     × (getElem? (sharp63 .snd .frames) 65 ≡ some mark)
     × (onDelivery (sharp63 .rcv) mark ≡ Refused TableFull)
 unfolding fresh writes emits loses takes reads send.created send.written send.writeJudged send.wrote send.writtenArena send.emitted send.emittedOut send.sent send.retransmits send.lossJudged send.lost sendBufOf kept held recv.created recv.written recv.writeJudged recv.wrote recv.writtenArena recv.emitted recv.emittedOut recv.discarded recv.takeJudged recv.tookOut bufOf
@@ -177,7 +176,7 @@ full-at-63L = (
 abbrev sharp64 : System
 sharp64 = run (fresh (ends 130 130 128)) (even ++ deliveries 63 1 ++ deliver 65 ∷ [])
 
-stall-at-64L : Premises (ends 130 130 128) × (ends 130 130 128 .recvRoom ≡ 64 * 2) × Each (Ended (OnGrid 2 130) 130) (sharp64 .snd .frames)
+stall-at-64L : Premises (ends 130 130 128) × (ends 130 130 128 .recvRoom ≡ 64 * 2) × All (Ended (OnGrid 2 130) 130) (sharp64 .snd .frames)
     × (getElem? (sharp64 .snd .frames) 0 ≡ some (sevens 0 2))
     × (receiver (sharp64 .rcv) .off ≡ 0)
     × (recv.isReady (receiver (sharp64 .rcv) .chunks) 0 ≡ false)
@@ -250,6 +249,6 @@ held-back =
     (write (1 ∷ []) false ∷ write (2 ∷ 3 ∷ []) false ∷ emit (0 ∷ 0 ∷ []) ∷ write (4 ∷ 5 ∷ []) true ∷ emissions 2 2
     ++ deliver 1 ∷ deliver 2 ∷ lose 0 ∷ emit (0 ∷ 0 ∷ []) ∷ deliver 3 ∷ read (replicate 9 0) ∷ [])
 
-held-back-ends : Each (Ended (OnGrid 2 5) 5) (held-back .snd .frames) × (held-back .rcv .out ≡ 1 ∷ 2 ∷ 3 ∷ 4 ∷ 5 ∷ [])
+held-back-ends : All (Ended (OnGrid 2 5) 5) (held-back .snd .frames) × (held-back .rcv .out ≡ 1 ∷ 2 ∷ 3 ∷ 4 ∷ 5 ∷ [])
 unfolding fresh writes emits loses takes reads send.created send.written send.writeJudged send.wrote send.writtenArena send.emitted send.emittedOut send.sent send.retransmits send.lossJudged send.lost sendBufOf kept held recv.created recv.written recv.writeJudged recv.wrote recv.writtenArena recv.emitted recv.emittedOut recv.discarded recv.takeJudged recv.tookOut bufOf
 held-back-ends = (ends-well 2 5 (held-back .snd .frames) refl, refl)

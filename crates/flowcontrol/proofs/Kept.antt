@@ -1,5 +1,5 @@
 -- Every window that came from creation or a call is good, whatever the numbers; a refused creation's too. Assumes nothing.
-use mathlib.Core.Path.{_≡_}
+use mathlib.Core.Path.{_≡_, sym, subst}
 use mathlib.Core.Bool.{false, cond, _||_}
 use Prim.Native.Nat.{ℕ, _+_, _*_, _≤_}
 use native.Mathlib.Omega.{arith}
@@ -58,3 +58,15 @@ module _ (f : FlowControl) (g : Good f) where
       cond-elim (λ (r : Outcome). Good (r .flow)) (ltb M n)
       (λ _. g)
       (λ _. cond-elim Good (ltb (f .window) n) (λ _. window-good f g n) (λ _. g))
+
+-- ---- a lent window: the record at exit is good
+
+module _ (f : FlowControl) (g : Good f) (x : FlowControl) where
+  pub consume-good : (n : ℕ) → x ≡ consumedMore f n .flow → Good x
+  consume-good n e = subst Good (sym e) (consumedMore-good f g n)
+
+  pub commit-good : (now : ℕ) → x ≡ committed f now → Good x
+  commit-good now e = subst Good (sym e) (committed-good f g now)
+
+  pub autotune-good : (now rtt : ℕ) → x ≡ autotuned f now rtt → Good x
+  autotune-good now rtt e = subst Good (sym e) (autotuned-good f g now rtt)

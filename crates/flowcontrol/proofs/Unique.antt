@@ -3,6 +3,7 @@ use mathlib.Core.Path.{_≡_}
 use mathlib.Core.Bool.{Bool}
 use Prim.Native.Nat.{ℕ}
 use Rattle.tables.proofs.Tables.{no-second}
+use Rattle.refusal.specs.declared.Answer.{Answer}
 use Rattle.flowcontrol.specs.declared.FlowControl.{FlowControl}
 use Rattle.flowcontrol.specs.declared.Outcome.{Outcome}
 use Rattle.flowcontrol.specs.Rules.{created, consumedMore, due, next, committed, autotuned, atLeast}
@@ -36,3 +37,17 @@ autotune-window-unique f now rtt = no-second
 
 pub ensure-window-lower-bound-unique : (f : FlowControl) (n : ℕ) (p q : Outcome) → p ≡ atLeast f n → q ≡ atLeast f n → p ≡ q
 ensure-window-lower-bound-unique f n = no-second
+
+-- ---- a lent window: the answer, and the record at exit
+
+pub consume-unique : (f : FlowControl) (n : ℕ) (p q : Answer) (x y : FlowControl)
+    → p ≡ consumedMore f n .answer → q ≡ consumedMore f n .answer → x ≡ consumedMore f n .flow → y ≡ consumedMore f n .flow → (p ≡ q) × (x ≡ y)
+consume-unique f n p q x y d e h k = (no-second p q d e, no-second x y h k)
+
+pub commit-unique : (f : FlowControl) (now p q : ℕ) (x y : FlowControl)
+    → p ≡ committed f now .«max_data» → q ≡ committed f now .«max_data» → x ≡ committed f now → y ≡ committed f now → (p ≡ q) × (x ≡ y)
+commit-unique f now p q x y d e h k = (no-second p q d e, no-second x y h k)
+
+pub autotune-unique : (f : FlowControl) (now rtt p q : ℕ) (x y : FlowControl)
+    → p ≡ autotuned f now rtt .window → q ≡ autotuned f now rtt .window → x ≡ autotuned f now rtt → y ≡ autotuned f now rtt → (p ≡ q) × (x ≡ y)
+autotune-unique f now rtt p q x y d e h k = (no-second p q d e, no-second x y h k)

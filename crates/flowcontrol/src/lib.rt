@@ -4,7 +4,10 @@
 //        | left to send |             an update is due when less than half a window is left
 //        |------ window -----|        the next limit: consumed + window
 //
-// The record goes into a call and comes back changed. Every call answers; a refusal changes nothing. Time is in microseconds.
+// The record goes into a call and comes back changed; module `lent` has the calls of a caller's loop, which change a lent record in place.
+// Every call answers; a refusal changes nothing. Time is in microseconds.
+pub mod lent;
+
 ghost use mathlib.Core.Path.{_≡_};
 ghost use Rattle.flowcontrol.specs.State.{Good};
 ghost use Rattle.flowcontrol.specs.Rules.{badNumbers, created, consumedMore, due, next, committed, autotuned, withWindow, atLeast};

@@ -1,12 +1,13 @@
--- Every chunk that came from creation or a call is good, whatever the numbers; a refused creation's too. Assumes nothing.
+-- Every chunk that came from creation or a call is good, whatever the numbers; a refused creation's too. And `consumed-in`: what a consume of no
+-- more than remains gives. Assumes nothing.
 use mathlib.Core.Path.{_≡_}
-use mathlib.Core.Bool.{false}
 use Prim.Native.Nat.{ℕ, _+_, _≤_}
 use native.Mathlib.Omega.{arith}
-use borrow.Author.Tests.{ltb-false}
+use borrow.Author.Tests.{ltb-false, le-ltb}
 use lib.Dec.{ltb}
 use Rattle.tables.proofs.Tables.{cond-elim}
 use Rattle.refusal.specs.Rules.{M}
+use Rattle.refusal.specs.declared.Answer.the-variants.{Done}
 use Rattle.range_buf.specs.declared.RangeBuf.{RangeBuf}
 use Rattle.range_buf.specs.declared.Outcome.{Outcome}
 use Rattle.range_buf.specs.declared.SplitAnswer.{SplitAnswer}
@@ -38,6 +39,10 @@ created-good o n =
 pub consumed-good : (b : RangeBuf) (n : ℕ) → Good b → Good (consumed b n .buf)
 consumed-good b n g =
     cond-elim (λ (r : Outcome). Good (r .buf)) (ltb (avail b) n) (λ _. g) (λ e. used-good b n (ltb-false (avail b) n e) g)
+
+-- no more than remains is consumed
+pub consumed-in : (b : RangeBuf) (n : ℕ) → n ≤ avail b → consumed b n ≡ record { answer = Done; buf = used b n }
+consumed-in b n h = rw (le-ltb (avail b) n h)
 
 pub split-good : (b : RangeBuf) (n : ℕ) → Good b → Good (split b n .buf)
 split-good b n g =

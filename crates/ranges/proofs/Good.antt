@@ -1,9 +1,9 @@
 -- What a good set's table is: the laws by which the code and its callers go. Assumes nothing.
-use mathlib.Core.Path.{_≡_, refl, sym, ap, _∙_}
+use mathlib.Core.Path.{_≡_, sym, ap}
 use mathlib.Core.List.{List, [], _∷_}
 use Prim.Native.Nat.{ℕ, zero, suc, _+_, _≤_, _<_}
 use native.Mathlib.Omega.{arith}
-use lib.ListN.{length, take, drop, getD, length-drop}
+use lib.ListN.{length, drop, getD, length-drop}
 use Rattle.tables.proofs.Tables as tables
 use Rattle.ranges.specs.declared.Range.{Range}
 use Rattle.ranges.specs.declared.RangeSet.{RangeSet}

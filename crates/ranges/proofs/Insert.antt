@@ -1,19 +1,19 @@
 -- On a sorted list the steps that the code takes (`Steps`) do what the rules say (`Rules`). Assumes nothing.
 use mathlib.Core.Path.{_≡_, refl, sym, ap, _∙_}
-use mathlib.Core.Bool.{Bool, true, false, cond, and-false}
+use mathlib.Core.Bool.{true, false, and-false}
 use mathlib.Core.Logic.{_⊎_, inl, inr}
-use mathlib.Core.List.{List, [], _∷_, _++_}
-use Prim.Native.Nat.{ℕ, suc, _+_, _-_, _≤_, _<_, zero-le, suc-le-suc}
+use mathlib.Core.List.{List, [], _∷_}
+use Prim.Native.Nat.{ℕ, suc, _+_, _-_, _≤_, _<_}
 use native.Mathlib.Nat.{suc-add, zero-add}
 use native.Mathlib.Omega.{arith}
 use borrow.Author.Tests.{lt-ltb, le-ltb, le-leb, lt-leb, eq-eqb, ne-eqb}
-use lib.ListN.{length, take, drop, getD, length-drop}
+use lib.ListN.{length, take, drop, length-drop}
 use Rattle.tables.specs.Lists.{filterBy, takeWhile, spliceAt}
 use Rattle.ranges.specs.declared.Range.{Range}
 use Rattle.ranges.specs.declared.RangeSet.{RangeSet}
 use Rattle.ranges.specs.declared.Spot.{Spot}
 use Rattle.ranges.specs.State.{Sorted, Good, ranges, setOf}
-use Rattle.ranges.specs.Rules.{endsBelow, startsAbove, joins, hull, hull2, placed, needsRoom}
+use Rattle.ranges.specs.Rules.{endsBelow, startsAbove, joins, placed, needsRoom}
 use Rattle.ranges.specs.Steps.{lowCount, startsWithin, spotOf}
 use Rattle.tables.proofs.Tables.{cases, front-length}
 use Rattle.ranges.proofs.Good.{ranges-length, ranges-of}

@@ -1,15 +1,14 @@
 -- On a sorted list `remove_until` takes ranges from the front, and cuts at most one. Assumes nothing.
 use mathlib.Core.Path.{_≡_, refl, sym, ap, _∙_}
-use mathlib.Core.Bool.{Bool, true, false, cond}
-use mathlib.Core.List.{List, [], _∷_, _++_}
+use mathlib.Core.Bool.{false, cond}
+use mathlib.Core.List.{List, [], _∷_}
 use Prim.Native.Nat.{ℕ, suc, _+_, _-_, _≤_, _<_}
-use native.Mathlib.Nat.{le-of-suc-le-suc, not-suc-le-zero}
 use native.Mathlib.Omega.{arith}
 use borrow.Author.Tests.{lt-ltb, le-ltb, le-leb, lt-leb, leb-false}
 use lib.Dec.{ltb}
-use lib.ListN.{length, take, drop, getD}
+use lib.ListN.{drop}
 use Rattle.ranges.specs.declared.Range.{Range}
-use Rattle.ranges.specs.State.{Sorted, zeroRange, upto}
+use Rattle.ranges.specs.State.{Sorted, upto}
 use Rattle.ranges.specs.Rules.{removeFrom}
 use Rattle.ranges.specs.Steps.{goes, goneCount}
 use Rattle.tables.proofs.Tables.{cases}

@@ -1,15 +1,16 @@
 -- The bytes of an emit: each chunk's go straight behind those already placed in the output. Assumes nothing.
 use mathlib.Core.Path.{_≡_, refl, sym, ap, _∙_}
-use mathlib.Core.List.{List, [], _∷_, _++_, append-assoc, append-nil}
-use Prim.Native.Nat.{ℕ, zero, suc, _+_, _-_, _≤_, _<_, min}
+use mathlib.Core.List.{List, _∷_, _++_}
+use Prim.Native.Nat.{ℕ, _+_, _-_, _≤_, _<_, min}
 use native.Mathlib.Nat.{add-zero, min-eq-left, min-eq-right, min-le-right}
 use native.Mathlib.Omega.{arith}
-use lib.ListN.{length, take, drop, getD, length-append, length-drop, drop-of-length-le}
-use lib.Seq.{take-at, drop-at, drop-drop, take-all, length-take-le}
+use lib.ListN.{length, take, drop, getD, length-append, length-drop}
+use lib.Seq.{length-take-le}
 use borrow.Rule.Slice.PartMut.{putMid}
 use Rattle.tables.proofs.Tables.{cases}
-use Rattle.arena.specs.Rules.{held, handed}
-use Rattle.arena.proofs.Laws.{length-held, held-none, held-add, handed-held}
+use Rattle.arena.specs.Rules.{held}
+use Rattle.arena.proofs.Laws.{length-held, held-none}
+use Rattle.arena.proofs.Parts.{placed-more, room-left, room-used}
 use Rattle.range_buf.specs.declared.RangeBuf.{RangeBuf}
 use Rattle.range_buf.specs.Rules.{start, avail, zeroBuf}
 use Rattle.recv_buf.specs.declared.RecvBuf.{RecvBuf}
@@ -17,48 +18,6 @@ use Rattle.recv_buf.specs.State.{viewOf, Good}
 use Rattle.recv_buf.specs.Rules.{taken, takes}
 use Rattle.recv_buf.proofs.Good.{next, done}
 use Rattle.recv_buf.proofs.Taking.{taken-zero, taken-apart, taken-full, taken-part, taken-whole}
-
--- ---- a part of the output that was lent comes back
-
--- the whole rest behind x, filled by y
-put-rest : (a k : ℕ) (x rest y : List ℕ) → length x ≡ a → length rest ≤ k → putMid a k (x ++ rest) y ≡ x ++ y
-put-rest a k x rest y e h =
-    let p : putMid a k (x ++ rest) y ≡ (x ++ y) ++ drop k rest = rw (take-at x rest a e, drop-at x rest a e, append-assoc x y (drop k rest)) in
-    p ∙ ap (λ (l : List ℕ). (x ++ y) ++ l) (drop-of-length-le rest h) ∙ append-nil (x ++ y)
-
--- the front of an output, filled
-pub filled-front : (arena out last : List ℕ) (o k : ℕ) → 0 < length arena → k ≤ length out → last ≡ handed arena o (take (k - 0) out)
-    → last ++ drop (k - 0) out ≡ held arena o k ++ drop k out
-filled-front arena out last o k s h e =
-    let z : k - 0 ≡ k = omega arith in
-    rw (e, handed-held arena o (take (k - 0) out) s, z, length-take-le k out h)
-
--- what is placed in the output, and k bytes more
-placed-more : (arena out₀ out last : List ℕ) (from went k at : ℕ) → at ≡ from + went → went ≤ length out₀
-    → out ≡ held arena from went ++ drop went out₀
-    → last ≡ held arena at k ++ drop k (take (length out - went) (drop went out))
-    → putMid went (length out - went) out last ≡ held arena from (went + k) ++ drop (went + k) out₀
-placed-more arena out₀ out last from went k at e h p q =
-    let x : List ℕ = held arena from went in
-    let rest : List ℕ = drop went out₀ in
-    let y : List ℕ = held arena at k in
-    let lx : length x ≡ went = length-held arena from went in
-    let lr : length rest ≡ length out₀ - went = length-drop went out₀ in
-    let lo : length out ≡ length x + length rest = ap length p ∙ length-append x rest in
-    let tail : drop went out ≡ rest = ap (drop went) p ∙ drop-at x rest went lx in
-    let full : take (length out - went) (drop went out) ≡ rest = ap (take (length out - went)) tail ∙ take-all (length out - went) rest (omega arith) in
-    let filled : last ≡ y ++ drop (went + k) out₀ = q ∙ ap (λ (l : List ℕ). y ++ drop k l) full ∙ ap (λ (l : List ℕ). y ++ l) (drop-drop k went out₀) in
-    ap (λ (l : List ℕ). putMid went (length out - went) l last) p
-    ∙ put-rest went (length out - went) x rest last lx (omega arith)
-    ∙ ap (λ (l : List ℕ). x ++ l) filled
-    ∙ sym (append-assoc x y (drop (went + k) out₀))
-    ∙ ap (λ (l : List ℕ). l ++ drop (went + k) out₀) (ap (λ (n : ℕ). x ++ held arena n k) e ∙ sym (held-add arena from went k))
-
-twice-off : (l w a k : ℕ) → k ≡ a → l - w - a ≡ l - (w + k)
-twice-off l w a k e = omega arith
-
-all-off : (l w k : ℕ) → k ≡ l - w → l - (w + k) ≡ 0
-all-off l w k e = omega arith
 
 up-to : (n w k : ℕ) → k ≡ n - w → w < n → w + k ≤ n
 up-to n w k e h = omega arith
@@ -148,15 +107,15 @@ module _ (b : RecvBuf) (g : Good b) (arena out₀ : List ℕ) (count : ℕ) wher
               (λ lt.
               let w : taken (c ∷ cs) (b .off + went) (length out₀ - went) ≡ length out₀ - went = taken-part c cs (b .off + went) (length out₀ - went) adjoins has-room lt in
               let m : k ≡ length out₀ - went = s ∙ min-eq-right (omega arith) in
-              let y : length out₀ - (went + k) ≡ 0 = all-off (length out₀) went k m in
+              let y : length out₀ - (went + k) ≡ 0 = room-used (length out₀) went k m in
               let v : k ≡ count - went = m ∙ sym w ∙ at-next in
-              grown (up-to count went k v more) (rw (y, all-off count went k v) (taken-zero cs (b .off + (went + k)))))
+              grown (up-to count went k v more) (rw (y, room-used count went k v) (taken-zero cs (b .off + (went + k)))))
               (λ le.
               let w : taken (c ∷ cs) (b .off + went) (length out₀ - went) ≡ avail c + taken cs (b .off + went + avail c) (length out₀ - went - avail c) =
               taken-whole c cs (b .off + went) (length out₀ - went) adjoins has-room le in
               let m : k ≡ avail c = s ∙ min-eq-left le in
               let p : b .off + went + avail c ≡ b .off + (went + k) = omega arith in
-              let q : length out₀ - went - avail c ≡ length out₀ - (went + k) = twice-off (length out₀) went (avail c) k m in
+              let q : length out₀ - went - avail c ≡ length out₀ - (went + k) = room-left (length out₀) went k (avail c) m in
               let w′ : taken (c ∷ cs) (b .off + went) (length out₀ - went) ≡ avail c + taken cs (b .off + (went + k)) (length out₀ - (went + k)) = w ∙ rw (p, q) in
               let r = rest-of (avail c) (taken cs (b .off + (went + k)) (length out₀ - (went + k))) count went k m (sym w′ ∙ at-next) more in
               grown (r .0) (r .1))

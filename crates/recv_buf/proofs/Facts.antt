@@ -14,7 +14,7 @@ use lib.Dec.{ltb, eqb}
 use lib.ListN.{length, getD, take, drop, length-append, length-drop}
 use lib.Seq.{take-at, drop-at}
 use Rattle.tables.proofs.Tables.{cond-elim}
-use Rattle.refusal.specs.Rules.{M, after, known, isAt, withBytes, withSizes}
+use Rattle.refusal.specs.Rules.{M, after, known, isAt, withSizes}
 use Rattle.refusal.specs.declared.Answer.{Answer}
 use Rattle.refusal.specs.declared.Answer.the-variants.{Done, Refused}
 use Rattle.refusal.specs.declared.CountAnswer.the-variants.{Refused as NoCount}
@@ -35,6 +35,7 @@ use Rattle.recv_buf.specs.Rules.{otherArena, isReady, withChunks, newRec
 use Rattle.recv_buf.proofs.Lists.{chain-held, taken-most, taken-adjoining}
 use Rattle.recv_buf.proofs.Bytes.{Free, kept-length, kept-elsewhere, kept-stays, kept-new}
 use Rattle.recv_buf.proofs.Kept.{Accepted, accepted, fits-room}
+use Rattle.refusal.proofs.Answers.{bytes-done, bytes-refused}
 use Rattle.tables.proofs.Tests.{decided}
 
 -- ---- refusals
@@ -74,14 +75,10 @@ module _ (b : RecvBuf) (g : Good b) where
       go true None true e = let w : Offset ≡ why = cc in sym (g .whole) ∙ ap (cleared b) w
       go true None false e = let z : _≡_ {A = ℕ} 0 1 = cc in absurd (omega arith)
 
-  refused-is : (said : Answer) (n : ℕ) (fin : Bool) (why : Refusal) → withBytes said n fin ≡ NoBytes why → said ≡ Refused why
-  refused-is Done n fin why e = let z : _≡_ {A = ℕ} 0 1 = cc in absurd (omega arith)
-  refused-is (Refused x) n fin why e = let z : x ≡ why = cc in ap Refused z
-
   pub discard-refused : (n : ℕ) (why : Refusal) → discarded r n .answer ≡ NoBytes why → discarded r n .buf ≡ cleared b why
   unfolding discarded
   discard-refused n why e =
-      let s = refused-is (takeJudged r n) (takes r n) (isAt (r .fin) (r .off + takes r n)) why e in
+      let s = bytes-refused (takeJudged r n) (takes r n) (isAt (r .fin) (r .off + takes r n)) why e in
       ap (λ (x : Answer). bufOf (after x (tookOut r n) (refusedTake r))) s ∙ took-none n why s
 
   pub emit-refused : (ar out : List ℕ) (why : Refusal) → emitted r (length ar) (length out) .answer ≡ NoBytes why
@@ -101,7 +98,7 @@ module _ (b : RecvBuf) (g : Good b) where
       go false e = (
         discard-refused (length out) why e,
         ap (λ (x : Answer). after x (held ar (r .off) (takes r (length out)) ++ drop (takes r (length out)) out) out)
-            (refused-is (takeJudged r (length out)) (takes r (length out)) (isAt (r .fin) (r .off + takes r (length out))) why e),
+            (bytes-refused (takeJudged r (length out)) (takes r (length out)) (isAt (r .fin) (r .off + takes r (length out))) why e),
       )
 
   pub reset-refused : (code size : ℕ) (why : Refusal) → resets r code size .answer ≡ NoSizes why → resets r code size .buf ≡ b
@@ -128,7 +125,7 @@ module _ (b : RecvBuf) (g : Good b) where
       ok = accepted r (length ar) s (length bytes) fin said
 
       fits : 0 < length bytes → s + length bytes ≤ r .off + length ar
-      fits h = omega (arith, fits-room r s (length bytes) fin (g .facts) reads (ok .room) h, ok .size)
+      fits h = omega (arith, fits-room r s (length bytes) reads (ok .room) h, ok .size)
 
       arena-is : writtenArena r ar s bytes fin ≡ keptNew r ar s bytes
       unfolding written writtenArena
@@ -171,10 +168,6 @@ module _ (b : RecvBuf) (g : Good b) where
   -- ---- an accepted emit
 
   module _ (ar out : List ℕ) (count : ℕ) (ended : Bool) (said : emitted r (length ar) (length out) .answer ≡ Emitted count ended) where
-    done-is : (x : Answer) (n : ℕ) (fin : Bool) → withBytes x n fin ≡ Emitted count ended → (x ≡ Done) × (n ≡ count)
-    done-is Done n fin e = (refl, cc)
-    done-is (Refused y) n fin e = let z : _≡_ {A = ℕ} 0 1 = cc in absurd (omega arith)
-
     out-is : (emittedOut r ar out ≡ held ar (r .off) count ++ drop count out) × (takes r (length out) ≡ count)
     unfolding emitted emittedOut discarded
     out-is = go (otherArena r (length ar)) said
@@ -188,7 +181,7 @@ module _ (b : RecvBuf) (g : Good b) where
         go : (t : Bool) → (cond t other (discarded r (length out))) .answer ≡ Emitted count ended
             → (cond t out took ≡ held ar (r .off) count ++ drop count out) × (takes r (length out) ≡ count)
         go true e = let z : _≡_ {A = ℕ} 0 1 = cc in absurd (omega arith)
-        go false e = let p = done-is (takeJudged r (length out)) (takes r (length out)) (isAt (r .fin) (r .off + takes r (length out))) e in (
+        go false e = let p = bytes-done (takeJudged r (length out)) (takes r (length out)) (isAt (r .fin) (r .off + takes r (length out))) count ended e in (
           ap (λ (x : Answer). after x (held ar (r .off) (takes r (length out)) ++ drop (takes r (length out)) out) out) (p .0)
               ∙ ap (λ (k : ℕ). held ar (r .off) k ++ drop k out) (p .1),
           p .1,

@@ -1,19 +1,19 @@
 -- The chunks after a frame, as the code lists them: entry by entry, from the lowest on. Assumes nothing.
 use mathlib.Core.Path.{_≡_, refl, sym, ap, _∙_}
-use mathlib.Core.Bool.{Bool, true, false, cond, not, _&&_, _||_}
+use mathlib.Core.Bool.{true, false}
 use mathlib.Core.List.{List, [], _∷_, _++_}
 use Prim.Native.Nat.{ℕ, _+_, _-_, _*_, _≤_, _<_, max}
 use native.Mathlib.Omega.{arith}
 use borrow.Author.Tests.{lt-ltb, le-ltb, le-leb, lt-leb, eq-eqb, ne-eqb}
-use lib.Dec.{ltb, leb, eqb}
-use lib.ListN.{length, take, drop, getD}
-use Rattle.tables.proofs.Tables.{by-test, cases}
+use lib.Dec.{ltb, eqb}
+use lib.ListN.{drop, getD}
+use Rattle.tables.proofs.Tables.{by-test}
 use Rattle.range_buf.specs.declared.RangeBuf.{RangeBuf}
 use Rattle.range_buf.specs.Rules.{start, end, fresh, zeroBuf}
 use Rattle.recv_buf.specs.declared.RecvBuf.{RecvBuf}
 use Rattle.recv_buf.specs.declared.Entries.{Entries}
 use Rattle.recv_buf.specs.State.{viewOf, Good}
-use Rattle.recv_buf.specs.Rules.{run, unmark, filled, markedAt}
+use Rattle.recv_buf.specs.Rules.{run, filled, markedAt}
 use Rattle.recv_buf.specs.Steps.{listed, pushed, pushedAll, pushedRun, endsAt, lastRun}
 use Rattle.recv_buf.proofs.Good.{chunks-length, table, few, next, done}
 use Rattle.recv_buf.proofs.Pushing.{stored, push-all}

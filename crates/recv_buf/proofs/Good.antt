@@ -1,35 +1,18 @@
 -- What a good receive buffer's struct is: the laws by which the code and its callers go. Assumes nothing.
-use mathlib.Core.Path.{_≡_, refl, sym, ap, _∙_}
+use mathlib.Core.Path.{_≡_, sym, ap, _∙_}
 use mathlib.Core.List.{List, [], _∷_}
-use Prim.Native.Nat.{ℕ, zero, suc, _+_, _≤_, _<_}
+use Prim.Native.Nat.{ℕ, _+_, _≤_, _<_}
 use native.Mathlib.Omega.{arith}
-use lib.ListN.{length, take, drop, getD}
+use lib.ListN.{length, drop, getD}
 use Rattle.tables.specs.Lists.{Table, tableOf}
 use Rattle.tables.proofs.Tables as tables
-use Rattle.refusal.specs.Rules.{M}
 use Rattle.range_buf.specs.declared.RangeBuf.{RangeBuf}
-use Rattle.range_buf.specs.Rules.{start, end, zeroBuf}
+use Rattle.range_buf.specs.Rules.{zeroBuf}
 use Rattle.range_buf.specs.State.{Good as GoodChunk}
 use Rattle.flowcontrol.specs.State.{Good as GoodFlow}
 use Rattle.recv_buf.specs.declared.RecvBuf.{RecvBuf}
 use Rattle.recv_buf.specs.State.{Recv, viewOf, bufOf, Chain, Within, GoodRecv, Good}
-
--- ---- chains
-
-pub chain-weak : (lo lo′ : ℕ) (l : List RangeBuf) → lo′ ≤ lo → Chain lo l → Chain lo′ l
-chain-weak lo lo′ [] h k = tt
-chain-weak lo lo′ (c ∷ cs) h k = (omega (arith, k .0), k .1, k .2)
-
-pub chain-drop : (i lo : ℕ) (l : List RangeBuf) → Chain lo l → Chain lo (drop i l)
-chain-drop zero lo l k = k
-chain-drop (suc i) lo [] k = tt
-chain-drop (suc i) lo (c ∷ cs) k =
-    chain-weak (end c) lo (drop i cs) (omega (arith, k .0, k .1)) (chain-drop i (end c) cs (k .2))
-
-pub within-drop : (i hi : ℕ) (l : List RangeBuf) → Within hi l → Within hi (drop i l)
-within-drop zero hi l k = k
-within-drop (suc i) hi [] k = tt
-within-drop (suc i) hi (c ∷ cs) k = within-drop i hi cs (k .1)
+use Rattle.recv_buf.proofs.Lists.{chain-drop, within-drop}
 
 -- ---- the struct of numbers and lists, and back
 
@@ -67,9 +50,6 @@ made r d n e m = λ j. record {
 }
 
 module _ (b : RecvBuf) (g : Good b) where
-  pub buf-view : bufOf (viewOf b) ≡ b
-  buf-view = sym (g .whole)
-
   -- how many chunks there are
   pub chunks-length : length (viewOf b .chunks) ≡ b .count
   unfolding bufOf

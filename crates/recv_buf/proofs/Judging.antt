@@ -1,17 +1,20 @@
--- A refusal goes up under its own number: what an answer says of the tests behind it. Assumes nothing.
-use mathlib.Core.Path.{_≡_, refl, sym, ap, _∙_}
-use mathlib.Core.Bool.{Bool, true, false, cond, _||_}
+-- Creation, reset and shutdown by their judgement, where a refusal of a lower module goes up under its own number. Assumes nothing.
+use mathlib.Core.Path.{_≡_, sym, ap, _∙_}
+use mathlib.Core.Bool.{Bool, true, false, cond}
 use mathlib.Core.List.{[]}
 use Prim.Native.Nat.{ℕ, _+_, _-_, _≤_}
 use native.Mathlib.Omega.{arith}
-use borrow.Author.Tests.{ltb-true, ltb-false, lt-ltb, le-ltb}
-use lib.Dec.{ltb, eqb}
+use borrow.Author.Tests.{ltb-false}
+use lib.Dec.{ltb}
 use Rattle.tables.proofs.Tables.{by-test}
+use Rattle.tables.proofs.Tests.{or-false, decided}
+use Rattle.refusal.proofs.Chain.{passes}
+use Rattle.refusal.proofs.Answers.{not-both}
 use Rattle.refusal.specs.Rules.{M, known, isOther}
 use Rattle.refusal.specs.declared.Answer.{Answer}
 use Rattle.refusal.specs.declared.Answer.the-variants.{Done, Refused}
 use Rattle.refusal.specs.declared.Refusal.{Refusal}
-use Rattle.refusal.specs.declared.Refusal.the-variants.{Offset, FinalSize, FlowControl as OverLimit, Done as NothingReady, BadSetup}
+use Rattle.refusal.specs.declared.Refusal.the-variants.{Offset, FinalSize, Done as NothingReady, BadSetup}
 use Rattle.refusal.specs.declared.CountAnswer.the-variants.{Count, Refused as NoCount}
 use Rattle.refusal.specs.declared.SizesAnswer.the-variants.{Sizes, Refused as NoSizes}
 use Rattle.range_buf.specs.declared.Outcome.{Outcome as ChunkOutcome}
@@ -23,21 +26,10 @@ use Rattle.recv_buf.specs.declared.Entries.{Entries}
 use Rattle.recv_buf.specs.declared.Outcome.{Outcome}
 use Rattle.recv_buf.specs.declared.CountOutcome.{CountOutcome}
 use Rattle.recv_buf.specs.declared.SizesOutcome.{SizesOutcome}
-use Rattle.recv_buf.specs.State.{Recv, viewOf, bufOf, Good}
-use Rattle.recv_buf.specs.Rules.{newRecv, created, badSize, overLimit, resetJudged, wasReset, resets, shuts, withChunks, withEnds, withClosed}
+use Rattle.recv_buf.specs.State.{viewOf, bufOf, Good}
+use Rattle.recv_buf.specs.Rules.{newRecv, created, badSize, resetJudged, wasReset, resets, shuts, withChunks, withEnds, withClosed}
 use Rattle.recv_buf.specs.Steps.{listed, badRoom, emptyRecv}
 use Rattle.recv_buf.proofs.Pushing.{made-of}
-
--- no answer is both
-pub not-both : (w : Answer) (why : Refusal) {C : Type 0} → w ≡ Done → w ≡ Refused why → C
-not-both w why d r = let z : _≡_ {A = ℕ} 0 1 = cc in absurd (omega arith)
-
--- the way that a test takes
-pub taken-way : {A : Type 0} (t : Bool) (x y : A) → t ≡ true → x ≡ cond t x y
-taken-way t x y e = rw e
-
-pub left-way : {A : Type 0} (t : Bool) (x y : A) → t ≡ false → y ≡ cond t x y
-left-way t x y e = rw e
 
 -- ---- a first test that a lower module makes
 
@@ -103,20 +95,17 @@ module _ (b : RecvBuf) (g : Good b) (code size : ℕ) where
   pub reset-in : resetJudged (viewOf b) size ≡ Done → (size ≤ M) × (b .len ≤ size) × (b .off ≤ size)
   unfolding resetJudged
   reset-in e =
-      by-test (ltb M size) (λ y. not-both _ Offset e (rw y))
-      (λ n. by-test (badSize (viewOf b) size) (λ y. not-both _ FinalSize e (rw (n, y)))
-      (λ m. let s : b .len ≤ size = ltb-false size (b .len) (or-right (isOther (b .«fin_off») size) (ltb size (b .len)) m) in (ltb-false M size n, s, omega (arith, s, g .facts .off-len))))
-    where
-      or-right : (x y : Bool) → (x || y) ≡ false → y ≡ false
-      or-right true y h = let z : _≡_ {A = ℕ} 0 1 = cc in absurd (omega arith)
-      or-right false y h = h
+      let p = passes (ltb M size) Offset _ e in
+      let q = passes (badSize (viewOf b) size) FinalSize _ (p .1) in
+      let s : b .len ≤ size = ltb-false size (b .len) (or-false (isOther (b .«fin_off») size) (ltb size (b .len)) (q .0) .1) in
+      (ltb-false M size (p .0), s, omega (arith, s, g .facts .off-len))
 
 -- ---- shutdown
 
 module _ (b : RecvBuf) (g : Good b) where
   pub shut-again : b .drain ≡ true → _≡_ {A = CountOutcome} (record { answer = NoCount NothingReady; buf = b }) (shuts (viewOf b))
   unfolding shuts
-  shut-again e = (λ j. record { answer = NoCount NothingReady; buf = g .whole j }) ∙ taken-way (b .drain) _ _ e
+  shut-again e = (λ j. record { answer = NoCount NothingReady; buf = g .whole j }) ∙ sym (decided e _ _)
 
   pub shut-done : (t : Entries) → t ≡ listed [] → b .drain ≡ false
       → _≡_ {A = CountOutcome} (record {

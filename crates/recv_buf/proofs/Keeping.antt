@@ -1,13 +1,13 @@
 -- The arena after a frame: the bytes that are new are kept run by run. Assumes nothing.
 use mathlib.Core.Path.{_≡_, refl, sym, ap, _∙_}
-use mathlib.Core.Bool.{Bool, true, false, cond, not, _&&_, _||_}
+use mathlib.Core.Bool.{Bool, true, false, not, _&&_, _||_, and-false}
 use mathlib.Core.List.{List, [], _∷_}
 use Prim.Native.Nat.{ℕ, zero, suc, _+_, _-_, _%_, _≤_, _<_, min, max}
 use native.Mathlib.Nat.{add-zero}
 use native.Mathlib.Omega.{arith}
 use borrow.Author.Tests.{lt-ltb, le-ltb, le-leb, lt-leb}
 use lib.Dec.{ltb, leb}
-use lib.ListN.{length, take, drop, getD, set, drop-of-length-le, length-drop}
+use lib.ListN.{length, take, drop, getD, set, drop-of-length-le}
 use lib.Seq.{drop-drop}
 use Rattle.tables.proofs.Tables.{cases}
 use Rattle.arena.specs.Rules.{kept}
@@ -18,14 +18,11 @@ use Rattle.recv_buf.specs.declared.RecvBuf.{RecvBuf}
 use Rattle.recv_buf.specs.State.{Recv, viewOf, Chain, Good}
 use Rattle.recv_buf.specs.Rules.{holds, keptNew}
 use Rattle.recv_buf.proofs.Good.{next, done, chain-at}
+use Rattle.recv_buf.proofs.Lists.{held-not, chain-held}
 
 -- the byte of offset q is new
 abbrev pub isNew : Recv → ℕ → Bool
 isNew r q = leb (r .off) q && not (holds (r .chunks) q)
-
-and-false : (t : Bool) → (t && false) ≡ false
-and-false true = refl
-and-false false = refl
 
 -- ---- a stretch of k offsets
 
@@ -51,10 +48,8 @@ new-run r ar o (suc k) (x ∷ xs) h =
 -- ---- what the chunks hold
 
 -- nothing below the first
-pub holds-below : (lo : ℕ) (l : List RangeBuf) (q : ℕ) → Chain lo l → q < lo → holds l q ≡ false
-holds-below lo [] q k h = refl
-holds-below lo (c ∷ cs) q k h =
-    rw (lt-leb (start c) q (omega (arith, k .0)), holds-below (end c) cs q (k .2) (omega (arith, k .0, k .1)))
+holds-below : (lo : ℕ) (l : List RangeBuf) (q : ℕ) → Chain lo l → q < lo → holds l q ≡ false
+holds-below lo l q k h = held-not l q (λ x. omega (arith, chain-held lo l q k x))
 
 module _ (c : RangeBuf) (cs : List RangeBuf) (q : ℕ) where
   holds-before : Chain (end c) cs → c .pos ≤ c .len → q < start c → holds (c ∷ cs) q ≡ false

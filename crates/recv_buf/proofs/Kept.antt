@@ -9,10 +9,9 @@ use native.Mathlib.Nat.{add-zero}
 use native.Mathlib.Omega.{arith}
 use lib.Dec.{ltb, eqb}
 use lib.ListN.{length}
-use borrow.Author.Tests.{ltb-false, eqb-true, eqb-false, not-false}
+use borrow.Author.Tests.{ltb-false, eqb-true, not-false}
 use Rattle.tables.proofs.Tables.{cond-elim}
-use Rattle.refusal.specs.Rules.{M, after, known, finWith}
-use Rattle.refusal.specs.declared.Answer.{Answer}
+use Rattle.refusal.specs.Rules.{M, known, finWith}
 use Rattle.refusal.specs.declared.Answer.the-variants.{Done, Refused}
 use Rattle.refusal.specs.declared.Refusal.the-variants.{Offset, FinalSize, FlowControl as OverLimit, NoRoom, TableFull, Done as NothingReady, BadSetup}
 use Rattle.refusal.specs.declared.OptionU64.{OptionU64}
@@ -25,16 +24,14 @@ use Rattle.recv_buf.specs.declared.CountOutcome.{CountOutcome}
 use Rattle.recv_buf.specs.declared.EmitOutcome.{EmitOutcome}
 use Rattle.recv_buf.specs.State.{Recv, Chain, Within, Held, GoodRecv, Good}
 use Rattle.recv_buf.specs.Rules.{otherArena, isReady, withChunks, withEnds, withFlow, withClosed, newRecv, badNumbers, created, passesFinal, noRoom, chunksAfter, noEntry, writeJudged, wrote, written, takes, leftOver, unlessReset, takeJudged, tookOut, refusedTake, discarded, emitted, resetJudged, wasReset, resets, shuts, commits, autotunes, flowBack}
-use Rattle.recv_buf.proofs.Lists.{within-weaken, filled-chain, filled-within, filled-held, marked-chain, marked-within, marked-held, left-chain, left-within, left-held, left-length, taken-within}
+use Rattle.recv_buf.proofs.Lists.{within-weaken, filled-chain, filled-within, marked-chain, marked-within, left-chain, left-within, left-held, left-length, taken-within}
+use Rattle.recv_buf.proofs.Frames.{after-held}
+use Rattle.arena.proofs.Places.{right-arena}
 use Rattle.flowcontrol.proofs.Kept.{fresh-good, consumed-good, committed-good, autotuned-good}
 use Rattle.recv_buf.proofs.Good.{good-buf as good-of}
 use Rattle.tables.proofs.Tests.{either, clash, and-true, and-false, or-false}
 use Rattle.refusal.proofs.Chain.{passes}
-
--- what holds after a success, and after a refusal, holds after the call
-pub after-elim {ℓ} : {A : Type 0} (P : A → Type ℓ) (said : Answer) {x y : A} → (said ≡ Done → P x) → P y → P (after said x y)
-after-elim P Done f g = f refl
-after-elim P (Refused why) f g = g
+use Rattle.refusal.proofs.Answers.{after-elim}
 
 -- ---- creation
 
@@ -103,12 +100,6 @@ pub record Accepted (r : Recv) (a s n : ℕ) (fin : Bool) : Type 0 where
   pub room : noRoom r s n ≡ false
   pub entry : noEntry r s n fin ≡ false
 
-pub right-arena : (r : Recv) (a : ℕ) → otherArena r a ≡ false → (0 < a) × (a ≡ r .room)
-right-arena r a e =
-    let p = or-false (eqb a 0) (not (eqb a (r .room))) e in
-    let z : a ≡ 0 → ⊥ = eqb-false a 0 (p .0) in
-    (omega arith, eqb-true a (r .room) (not-false (eqb a (r .room)) (p .1)))
-
 pub accepted : (r : Recv) (a s n : ℕ) (fin : Bool) → writeJudged r a s n fin ≡ Done → Accepted r a s n fin
 unfolding writeJudged
 accepted r a s n fin e =
@@ -118,8 +109,8 @@ accepted r a s n fin e =
     let e₄ = passes (passesFinal (r .fin) (r .len) (s + n) fin) FinalSize _ (e₃ .1) in
     let e₅ = passes (noRoom r s n) NoRoom _ (e₄ .1) in
     let e₆ = passes (noEntry r s n fin) TableFull _ (e₅ .1) in record {
-      some-room = right-arena r a (e₁ .0) .0;
-      size = right-arena r a (e₁ .0) .1;
+      some-room = right-arena (r .room) a (e₁ .0) .0;
+      size = right-arena (r .room) a (e₁ .0) .1;
       top = ltb-false M (s + n) (e₂ .0);
       credit = ltb-false (r .flow .«max_data») (s + n) (e₃ .0);
       final = e₄ .0;
@@ -133,37 +124,46 @@ pub record Placed (r : Recv) (e : ℕ) (cs : List RangeBuf) : Type 0 where
   pub within : Within (max (r .len) e) cs
   pub near : (o : ℕ) → Held cs o → o < r .off + r .room
 
+-- the frame's bytes lie within a window of A from off on
+pub fits-room : (r : Recv) (s n : ℕ) → r .drain ≡ false → noRoom r s n ≡ false → 0 < n → s + n ≤ r .off + r .room
+fits-room r s n u e h = either (and-false (not (r .drain)) (ltb 0 n && ltb (r .room) (s + n - r .off)) e)
+    (λ x. clash (sym (not-false (r .drain) x) ∙ u))
+    (λ x. either (and-false (ltb 0 n) (ltb (r .room) (s + n - r .off)) x)
+    (λ y. absurd (omega (arith, ltb-false 0 n y)))
+    (λ y. omega (arith, ltb-false (r .room) (s + n - r .off) y)))
+
+-- and its chunks fit the table
+pub fits-table : (r : Recv) (s n : ℕ) (fin : Bool) → r .drain ≡ false → noEntry r s n fin ≡ false → length (chunksAfter r s n fin) ≤ 64
+fits-table r s n fin u e = either (and-false (not (r .drain)) (ltb 64 (length (chunksAfter r s n fin))) e)
+    (λ x. clash (sym (not-false (r .drain) x) ∙ u))
+    (λ x. ltb-false 64 (length (chunksAfter r s n fin)) x)
+
 module _ (r : Recv) (s n : ℕ) (fin : Bool) (g : GoodRecv r) where
   wider : Within (max (r .len) (s + n)) (r .chunks)
   wider = within-weaken (r .len) (max (r .len) (s + n)) (r .chunks) (omega arith) (g .within)
 
   pub placed : (0 < n → s + n ≤ r .off + r .room) → (fin ≡ true → r .len ≤ s + n) → Placed r (s + n) (chunksAfter r s n fin)
-  placed fits high = cond-elim (Placed r (s + n)) (eqb n 0)
-      (λ e. cond-elim (Placed r (s + n)) (not (known (r .fin)) && fin)
-      (λ d. let l = high (and-true (not (known (r .fin))) fin d .1) in let z = eqb-true n 0 e in record {
-        chain = marked-chain (r .chunks) (r .off) s (omega (arith, g .off-len)) (within-weaken (r .len) s (r .chunks) (omega arith) (g .within)) (g .chain);
-        within = marked-within (r .chunks) (max (r .len) (s + n)) s (omega arith) wider;
-        near = λ o h. g .near o (marked-held (r .chunks) s o h);
-      })
-      (λ d. record { chain = g .chain; within = wider; near = g .near }))
-      (λ e. let f = fits (let z : (n ≡ 0) → ⊥ = eqb-false n 0 e in omega arith) in record {
-        chain = filled-chain (r .chunks) (r .off) (max s (r .off)) (s + n) (omega arith) (g .chain);
-        within = filled-within (r .chunks) (max (r .len) (s + n)) (max s (r .off)) (s + n) (omega arith) wider;
-        near = λ o h. either (filled-held (r .chunks) (max s (r .off)) (s + n) o h) (g .near o) (λ p. omega arith);
-      })
+  placed fits high = record {
+    chain = both .0;
+    within = both .1;
+    near = λ o h. either (after-held r s n fin o h) (g .near o) (λ p. omega (arith, fits (omega arith)));
+  }
+    where
+      top : ℕ
+      top = max (r .len) (s + n)
 
-  -- the frame's bytes lie within a window of A from off on
-  pub fits-room : r .drain ≡ false → noRoom r s n ≡ false → 0 < n → s + n ≤ r .off + r .room
-  fits-room u e h = either (and-false (not (r .drain)) (ltb 0 n && ltb (r .room) (s + n - r .off)) e)
-      (λ x. clash (sym (not-false (r .drain) x) ∙ u))
-      (λ x. either (and-false (ltb 0 n) (ltb (r .room) (s + n - r .off)) x)
-      (λ y. absurd (omega (arith, ltb-false 0 n y)))
-      (λ y. omega (arith, ltb-false (r .room) (s + n - r .off) y)))
-
-  few-enough : r .drain ≡ false → noEntry r s n fin ≡ false → length (chunksAfter r s n fin) ≤ 64
-  few-enough u e = either (and-false (not (r .drain)) (ltb 64 (length (chunksAfter r s n fin))) e)
-      (λ x. clash (sym (not-false (r .drain) x) ∙ u))
-      (λ x. ltb-false 64 (length (chunksAfter r s n fin)) x)
+      both : Chain (r .off) (chunksAfter r s n fin) × Within top (chunksAfter r s n fin)
+      both = cond-elim (λ (cs : List RangeBuf). Chain (r .off) cs × Within top cs) (eqb n 0)
+          (λ e. cond-elim (λ (cs : List RangeBuf). Chain (r .off) cs × Within top cs) (not (known (r .fin)) && fin)
+          (λ d. let l = high (and-true (not (known (r .fin))) fin d .1) in let z = eqb-true n 0 e in (
+            marked-chain (r .chunks) (r .off) s (omega (arith, g .off-len)) (within-weaken (r .len) s (r .chunks) (omega arith) (g .within)) (g .chain),
+            marked-within (r .chunks) top s (omega arith) wider,
+          ))
+          (λ d. (g .chain, wider)))
+          (λ e. (
+            filled-chain (r .chunks) (r .off) (max s (r .off)) (s + n) (omega arith) (g .chain),
+            filled-within (r .chunks) top (max s (r .off)) (s + n) (omega arith) wider,
+          ))
 
   pub wrote-good : (a : ℕ) → writeJudged r a s n fin ≡ Done → GoodRecv (wrote r s n fin)
   unfolding wrote
@@ -197,14 +197,14 @@ module _ (r : Recv) (s n : ℕ) (fin : Bool) (g : GoodRecv r) where
         shut-off = λ z. refl;
         flow-good = g .flow-good;
       }
-      go false false y = let p = placed (fits-room y (ok .room)) (ends .mark-high) in record {
+      go false false y = let p = placed (fits-room r s n y (ok .room)) (ends .mark-high) in record {
         room-in = g .room-in;
         chain = p .chain;
         within = p .within;
         near = p .near;
         off-len = omega (arith, g .off-len);
         len-in = omega (arith, g .len-in, ok .top);
-        few = few-enough y (ok .entry);
+        few = fits-table r s n fin y (ok .entry);
         fin-len = fin-is-top (r .fin) (r .len) (s + n) fin ends (g .fin-len);
         shut-none = λ z. clash (sym z ∙ y);
         shut-off = λ z. clash (sym z ∙ y);

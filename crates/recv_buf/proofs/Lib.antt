@@ -1,6 +1,7 @@
--- The laws of the receive buffer. Callers cite `Good`, `Lists`, `Bytes`, `Kept` and `Facts`; `Rfc` has the agreement with RFC 9000.
+-- The laws of the receive buffer. Callers cite `Good`, `Lists`, `Frames`, `Bytes`, `Kept` and `Facts`; `Rfc` has the agreement with RFC 9000.
 pub mod Good
 pub mod Lists
+pub mod Frames
 pub mod Bytes
 pub mod Kept
 pub mod Facts

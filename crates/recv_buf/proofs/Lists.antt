@@ -2,6 +2,7 @@
 -- and an emit takes from it. Assumes nothing.
 --
 --   holds, Held                 the test and the fact say the same             holds-held, holds-not, held-holds, held-not
+--   Chain, Within               of a higher or lower bound, and from i on      chain-weaken, chain-drop, within-weaken, within-drop
 --   filled                      keeps order and bounds                         filled-chain, filled-within
 --                               holds what was held and lo..hi, and no more    filled-held, held-filled, filled-whole
 --   markedAt                    the same; it holds no more                     marked-chain, marked-within, marked-held, held-marked
@@ -12,10 +13,10 @@ use mathlib.Core.Path.{_≡_, refl, subst}
 use mathlib.Core.Logic.{_⊎_, inl, inr}
 use mathlib.Core.Bool.{Bool, true, false, cond, _&&_, false≢true}
 use mathlib.Core.List.{List, [], _∷_}
-use Prim.Native.Nat.{ℕ, suc, _+_, _-_, _≤_, _<_, min, max}
+use Prim.Native.Nat.{ℕ, zero, suc, _+_, _-_, _≤_, _<_, min, max}
 use native.Mathlib.Omega.{arith}
 use lib.Dec.{ltb, leb, eqb}
-use lib.ListN.{length}
+use lib.ListN.{length, drop}
 use borrow.Author.Tests.{ltb-true, ltb-false, leb-true, leb-false, eqb-true, eqb-false, eq-eqb}
 use Rattle.tables.proofs.Tables.{cases, cond-elim}
 use Rattle.range_buf.specs.declared.RangeBuf.{RangeBuf}
@@ -62,9 +63,19 @@ pub chain-weaken : (lo lo′ : ℕ) (cs : List RangeBuf) → lo′ ≤ lo → Ch
 chain-weaken lo lo′ [] h k = tt
 chain-weaken lo lo′ (c ∷ cs) h k = (omega arith, k .1, k .2)
 
+pub chain-drop : (i lo : ℕ) (cs : List RangeBuf) → Chain lo cs → Chain lo (drop i cs)
+chain-drop zero lo cs k = k
+chain-drop (suc i) lo [] k = tt
+chain-drop (suc i) lo (c ∷ cs) k = chain-weaken (end c) lo (drop i cs) (omega (arith, k .0, k .1)) (chain-drop i (end c) cs (k .2))
+
 pub within-weaken : (hi hi′ : ℕ) (cs : List RangeBuf) → hi ≤ hi′ → Within hi cs → Within hi′ cs
 within-weaken hi hi′ [] h k = tt
 within-weaken hi hi′ (c ∷ cs) h k = (omega arith, within-weaken hi hi′ cs h (k .1))
+
+pub within-drop : (i hi : ℕ) (cs : List RangeBuf) → Within hi cs → Within hi (drop i cs)
+within-drop zero hi cs k = k
+within-drop (suc i) hi [] k = tt
+within-drop (suc i) hi (c ∷ cs) k = within-drop i hi cs (k .1)
 
 pub within-held : (hi : ℕ) (cs : List RangeBuf) (o : ℕ) → Within hi cs → Held cs o → o < hi
 within-held hi [] o h k = absurd k
@@ -73,11 +84,11 @@ within-held hi (c ∷ cs) o h (inr k) = within-held hi cs o (h .1) k
 
 -- ---- a frame: the runs of lo..hi that no chunk holds become chunks
 
--- the five shapes of a step of `filled`
+-- the five shapes of a step of `filled`; in the second and third, what `unmark` found
 pub filled-elim : (P : List RangeBuf → Type 0) (c : RangeBuf) (cs : List RangeBuf) (lo hi : ℕ)
     → (hi ≤ start c → hi ≤ lo → P (c ∷ cs))
     → (hi ≤ start c → lo < hi → end c ≡ hi → P (fresh lo (hi - lo) ∷ cs))
-    → (hi ≤ start c → lo < hi → P (fresh lo (hi - lo) ∷ c ∷ cs))
+    → (hi ≤ start c → lo < hi → (end c ≡ hi → ⊥) → P (fresh lo (hi - lo) ∷ c ∷ cs))
     → (start c < hi → lo < start c → P (fresh lo (start c - lo) ∷ c ∷ filled cs (max lo (end c)) hi))
     → (start c < hi → start c ≤ lo → P (c ∷ filled cs (max lo (end c)) hi))
     → P (filled (c ∷ cs) lo hi)
@@ -85,7 +96,7 @@ filled-elim P c cs lo hi f₁ f₂ f₃ f₄ f₅ = cond-elim P (leb hi (start c
     (λ e. cond-elim P (ltb lo hi)
     (λ d. cond-elim (λ (x : List RangeBuf). P (fresh lo (hi - lo) ∷ x)) (eqb (end c) hi)
     (λ g. f₂ (leb-true hi (start c) e) (ltb-true lo hi d) (eqb-true (end c) hi g))
-    (λ g. f₃ (leb-true hi (start c) e) (ltb-true lo hi d)))
+    (λ g. f₃ (leb-true hi (start c) e) (ltb-true lo hi d) (eqb-false (end c) hi g)))
     (λ d. f₁ (leb-true hi (start c) e) (ltb-false lo hi d)))
     (λ e. cond-elim P (ltb lo (start c))
     (λ d. f₄ (leb-false hi (start c) e) (ltb-true lo (start c) d))
@@ -98,7 +109,7 @@ filled-chain (c ∷ cs) lo₀ lo hi h k =
     filled-elim (Chain lo₀) c cs lo hi
     (λ a b. k)
     (λ a b e. (omega arith, omega arith, chain-weaken (end c) (lo + (hi - lo)) cs (omega arith) (k .2)))
-    (λ a b. (omega arith, omega arith, (omega arith, k .1, k .2)))
+    (λ a b n. (omega arith, omega arith, (omega arith, k .1, k .2)))
     (λ a b. (omega arith, omega arith, (omega arith, k .1, ih)))
     (λ a b. (k .0, k .1, ih))
 
@@ -109,7 +120,7 @@ filled-within (c ∷ cs) h lo hi a k =
     filled-elim (Within h) c cs lo hi
     (λ x y. k)
     (λ x y e. (omega arith, k .1))
-    (λ x y. (omega arith, k))
+    (λ x y n. (omega arith, k))
     (λ x y. (omega arith, (k .0, ih)))
     (λ x y. (k .0, ih))
 
@@ -123,7 +134,7 @@ filled-held (c ∷ cs) lo hi o =
     filled-elim (λ (x : List RangeBuf). Held x o → Held (c ∷ cs) o ⊎ ((lo ≤ o) × (o < hi))) c cs lo hi
     (λ a b h. inl h)
     (λ a b e h. either h (λ p. inr (omega arith)) (λ q. inl (inr q)))
-    (λ a b h. either h (λ p. inr (omega arith)) (λ q. inl q))
+    (λ a b n h. either h (λ p. inr (omega arith)) (λ q. inl q))
     (λ a b h. either h (λ p. inr (omega arith)) (λ q. either q (λ p. inl (inl p)) ih))
     (λ a b h. either h (λ p. inl (inl p)) ih)
 
@@ -133,7 +144,7 @@ held-filled [] lo hi o h = absurd h
 held-filled (c ∷ cs) lo hi o h = filled-elim (λ (x : List RangeBuf). Held x o) c cs lo hi
     (λ a b. h)
     (λ a b e. either h (λ p. absurd (omega arith)) (λ q. inr q))
-    (λ a b. inr h)
+    (λ a b n. inr h)
     (λ a b. either h (λ p. inr (inl p)) (λ q. inr (inr (held-filled cs (max lo (end c)) hi o q))))
     (λ a b. either h (λ p. inl p) (λ q. inr (held-filled cs (max lo (end c)) hi o q)))
 
@@ -146,7 +157,7 @@ filled-whole (c ∷ cs) lo hi o h k =
     filled-elim (λ (x : List RangeBuf). Held x o) c cs lo hi
     (λ a b. absurd (omega arith))
     (λ a b e. inl (omega arith))
-    (λ a b. inl (omega arith))
+    (λ a b n. inl (omega arith))
     (λ a b. cases o (start c) (λ p. inl (omega arith)) (λ p. inr (cases o (end c) (λ q. inl (p, q)) (λ q. inr (ih q)))))
     (λ a b. cases o (end c) (λ q. inl (omega arith)) (λ q. inr (ih q)))
 

@@ -2,14 +2,12 @@
 use mathlib.Core.Path.{_≡_, refl, sym, ap, _∙_}
 use mathlib.Core.Bool.{cond}
 use mathlib.Core.List.{List, [], _∷_, _++_, append-assoc, append-nil}
-use Prim.Native.Nat.{ℕ, zero, suc, _+_, _-_, _≤_, _<_}
-use native.Mathlib.Nat.{add-zero}
-use native.Mathlib.Numerals.{add-one}
+use Prim.Native.Nat.{ℕ, suc, _+_, _-_, _≤_}
 use native.Mathlib.Omega.{arith}
 use borrow.Author.Tests.{lt-ltb, le-ltb}
 use lib.Dec.{ltb}
-use lib.ListN.{length, take, getD, set, replicate, length-append, length-replicate, length-take, length-set, List·getD-append, List·getD-eq-default}
-use lib.Seq.{ext-getD, getD-take, getD-set-same, getD-set-other, getD-at, take-all, take-append-le}
+use lib.ListN.{length, take, set, replicate, length-append, length-replicate}
+use lib.Seq.{take-all, take-append-le}
 use Rattle.tables.specs.Lists.{tableOf}
 use Rattle.tables.proofs.Tables.{cases}
 use Rattle.range_buf.specs.declared.RangeBuf.{RangeBuf}
@@ -19,9 +17,6 @@ use Rattle.recv_buf.specs.declared.Entries.{Entries}
 use Rattle.recv_buf.specs.State.{Recv, bufOf}
 use Rattle.recv_buf.specs.Steps.{listed, pushed, pushedAll}
 use Rattle.recv_buf.proofs.Good.{made}
-
-table-length : (l : List RangeBuf) → length (take 64 (tableOf zeroBuf l)) ≡ 64
-table-length l = simp (length-take, length-append, length-replicate) (omega arith)
 
 -- a list with 64 entries or less is stored whole
 pub stored : (l : List RangeBuf) → length l ≤ 64 → take 64 (tableOf zeroBuf l) ≡ tableOf zeroBuf l

@@ -5,7 +5,7 @@
 --   what is accepted breaks no rule                                                                   lawful-write, lawful-reset
 use mathlib.Core.Path.{_≡_, refl, sym, ap, _∙_}
 use mathlib.Core.Logic.{_⊎_, inl, inr, _↔_}
-use mathlib.Core.Bool.{Bool, true, false, cond, not, _&&_, _||_}
+use mathlib.Core.Bool.{Bool, true, false, cond, not, _&&_, _||_, and-false}
 use mathlib.Core.List.{List}
 use Prim.Native.Nat.{ℕ, _+_, _-_, _≤_, _<_}
 use native.Mathlib.Omega.{arith}
@@ -30,6 +30,7 @@ use Rattle.recv_buf.proofs.RfcLaws.{over-limit, limit-over, past-final}
 use Rattle.recv_buf.proofs.RfcState.{knows, Sound}
 use Rattle.tables.proofs.Tests.{either, clash, and-true, or-true, or-false, decided, undecided}
 use Rattle.refusal.proofs.Chain.{passes}
+use Rattle.refusal.proofs.Answers.{known-not}
 
 refused-inj : {x y : Refusal} → Refused x ≡ Refused y → x ≡ y
 refused-inj e = cc
@@ -229,17 +230,12 @@ module _ (r : Recv) (ar out : List ℕ) (s : ℕ) (bytes : List ℕ) (fin : Bool
 abbrev pub Wide : Recv → Type 0
 Wide r = r .flow .«max_window» ≤ r .room
 
-and-none : (a b : Bool) → (a && (b && false)) ≡ false
-and-none true true = refl
-and-none true false = refl
-and-none false b = refl
-
 module _ (r : Recv) (ar out : List ℕ) (g : Sound r ar out) (st : Steady (r .flow)) (wide : Wide r) (s : ℕ) (bytes : List ℕ) (fin : Bool) where
   roomy : s + length bytes ≤ r .flow .«max_data» → passesFinal (r .fin) (r .len) (s + length bytes) fin ≡ false → noRoom r s (length bytes) ≡ false
   roomy l b = go (r .drain) refl (r .error) refl
     where
       fits : s + length bytes ≤ r .off + r .room → (d : Bool) → (not d && (ltb 0 (length bytes) && ltb (r .room) (s + length bytes - r .off))) ≡ false
-      fits h d = rw (le-ltb (r .room) (s + length bytes - r .off) (omega arith)) (and-none (not d) (ltb 0 (length bytes)))
+      fits h d = rw (le-ltb (r .room) (s + length bytes - r .off) (omega arith)) (rw (and-false (ltb 0 (length bytes)), and-false (not d)))
 
       go : (d : Bool) → r .drain ≡ d → (z : OptionU64) → r .error ≡ z → noRoom r s (length bytes) ≡ false
       go true e z y = rw e
@@ -267,10 +263,6 @@ module _ (r : Recv) (ar out : List ℕ) (g : Sound r ar out) (st : Steady (r .fl
           ∙ undecided (roomy (ltb-false (r .flow .«max_data») (s + length bytes) x) y) (Refused NoRoom) _) ∙ e)
 
 -- ---- a reset, in document 01's order: final size, "already reset", limit
-
-known-not : (o : OptionU64) → known o ≡ false → o ≡ None
-known-not None e = refl
-known-not (Some x) e = clash e
 
 module _ (r : Recv) (ar out : List ℕ) (size : ℕ) where
   size-good : badSize r size ≡ false → ResetSizeError (knows r ar out) size → ⊥

@@ -16,6 +16,15 @@ use Rattle.refusal.specs.declared.OptionU64.the-variants.{None, Some}
 use Rattle.recv_buf.specs.Rfc9000.{Known, opened, Frame, endOf, Tells, FlowControlError, data-over, size-over, FinalSizeError, changed, beyond, short, dataAt, first, isSome, closed, stream, reset-changed, reset-short, takenOnly, resetStream, more, ordered, reading, abort, advertise, Event, streamFrame, resetFrame, readUpTo, giveUp, maxStreamData, effect, history, Breaks, Lawful}
 use Rattle.tables.proofs.Tests.{either, clash, or-true, or-false}
 
+-- a number that may be missing
+pub some-is : (o : OptionU64) → isSome o ≡ true → (x : ℕ) × (o ≡ Some x)
+some-is None e = clash (sym e)
+some-is (Some x) e = (x, refl)
+
+pub none-is : (o : OptionU64) → isSome o ≡ false → o ≡ None
+none-is None e = refl
+none-is (Some x) e = clash e
+
 -- the bytes of a frame
 pub dataAt-below : (s : ℕ) (bs : List ℕ) (o : ℕ) → o < s → dataAt s bs o ≡ None
 dataAt-below s [] o h = refl
@@ -77,10 +86,6 @@ pub record Coherent (k : Known) : Type 0 where
   pub credit : k .highest ≤ k .limit  -- nothing beyond the limit
   pub settled : (x : ℕ) → k .final ≡ Some x → k .highest ≡ x  -- nor beyond the final size, which counts as received
   pub whole : (o : ℕ) → o < k .delivered → isSome (k .byte o) ≡ true  -- what was taken was known
-
-some-is : (o : OptionU64) → isSome o ≡ false → o ≡ None
-some-is None e = refl
-some-is (Some x) e = clash e
 
 pub coherent-opened : (l : ℕ) → Coherent (opened l)
 unfolding opened
@@ -158,7 +163,7 @@ module _ (k : Known) (g : Coherent k) where
   coherent (streamFrame f) ok = coherent-stream f ok
   coherent (resetFrame code size) ok = cond-elim Coherent (isSome (k .reset)) (λ t. g) (λ t. record {
     inside = λ o b e. cases size (k .highest) (λ h. absurd (ok (inl (reset-short h)))) (λ h. omega (arith, below-highest o b e));
-    credit = cases (k .limit) size (λ h. absurd (ok (inr (some-is (k .reset) t, h)))) (λ h. h);
+    credit = cases (k .limit) size (λ h. absurd (ok (inr (none-is (k .reset) t, h)))) (λ h. h);
     settled = λ x e. cc;
     whole = taken-whole;
   })

@@ -1,5 +1,5 @@
 -- What a sound buffer answers, against what it knows: `Refuses`, the errors of frames and resets; `Reads`, what emits and discards take. Assumes nothing.
-use mathlib.Core.Path.{_≡_, refl, sym, ap, _∙_}
+use mathlib.Core.Path.{_≡_, sym, ap, _∙_}
 use mathlib.Core.Logic.{_⊎_, _↔_}
 use mathlib.Core.Bool.{Bool, false, cond}
 use mathlib.Core.List.{List, [], _++_}
@@ -7,7 +7,7 @@ use Prim.Native.Nat.{ℕ, _+_, _-_, _≤_}
 use native.Mathlib.Omega.{arith}
 use lib.ListN.{length, drop}
 use Rattle.tables.proofs.Tables.{cases}
-use Rattle.refusal.specs.Rules.{M, after, known, isAt, withBytes, withSizes}
+use Rattle.refusal.specs.Rules.{M, after, known, isAt, withSizes}
 use Rattle.refusal.specs.declared.Answer.{Answer}
 use Rattle.refusal.specs.declared.Answer.the-variants.{Done, Refused}
 use Rattle.refusal.specs.declared.EmitAnswer.{EmitAnswer}
@@ -25,6 +25,7 @@ use Rattle.recv_buf.proofs.RfcState.{Sound}
 use Rattle.recv_buf.proofs.RfcErrors.{offset-exact, flow-exact, final-exact, reset-final-exact, reset-flow-exact}
 use Rattle.recv_buf.proofs.RfcEmit.{knows-emit, emit-refused, readable-exact}
 use Rattle.recv_buf.proofs.RfcRun.{known-of, unlimited, right-of, emit-is}
+use Rattle.refusal.proofs.Answers.{bytes-done, bytes-refused}
 use Rattle.tables.proofs.Tests.{either, undecided}
 
 -- ---- the errors
@@ -88,16 +89,6 @@ pub record Reads (k : Known) (y : Side) : Type 0 where
   pub nothing : (n : ℕ) (why : Refusal)
       → (emitted (view y) (length (y .arena)) n .answer ≡ NoBytes why) ⊎ (discarded (view y) n .answer ≡ NoBytes why)
       → (i : ℕ) → available k i ≡ []
-
--- the answer of an emit or a discard is its tests' answer
-bytes-done : (said : Answer) (n : ℕ) (fin : Bool) (count : ℕ) (ended : Bool) → withBytes said n fin ≡ Emitted count ended
-    → (said ≡ Done) × (n ≡ count) × (fin ≡ ended)
-bytes-done Done n fin count ended e = (refl, cc, cc)
-bytes-done (Refused x) n fin count ended e = let z : _≡_ {A = ℕ} 0 1 = cc in absurd (omega arith)
-
-bytes-refused : (said : Answer) (n : ℕ) (fin : Bool) (why : Refusal) → withBytes said n fin ≡ NoBytes why → said ≡ Refused why
-bytes-refused Done n fin why e = let z : _≡_ {A = ℕ} 0 1 = cc in absurd (omega arith)
-bytes-refused (Refused x) n fin why e = let z : x ≡ why = cc in ap Refused z
 
 module _ (y : Side) (g : Sound (view y) (y .arena) (y .out)) where
   dropped-now : (n count : ℕ) (ended : Bool) → discarded (view y) n .answer ≡ Emitted count ended

@@ -1,6 +1,6 @@
 -- A receive buffer read as RFC 9000's knowledge: `knows`; and what holds of every buffer that came from creation or a call, beside being good: `Sound`.
 -- Assumes nothing.
-use mathlib.Core.Path.{_≡_, refl, sym, ap, subst}
+use mathlib.Core.Path.{_≡_, refl, ap, subst}
 use mathlib.Core.Bool.{Bool, true, false, cond, _||_}
 use mathlib.Core.List.{List, []}
 use Prim.Native.Nat.{ℕ, _≤_, _<_}
@@ -18,7 +18,8 @@ use Rattle.recv_buf.specs.Rules.{holds, newRecv}
 use Rattle.recv_buf.specs.Rfc9000.{Known, opened, isSome}
 use Rattle.recv_buf.proofs.Lists.{held-not, chain-held, within-held}
 use Rattle.recv_buf.proofs.Kept.{new-good}
-use Rattle.tables.proofs.Tests.{either, clash, or-true}
+use Rattle.recv_buf.proofs.RfcLaws.{some-is}
+use Rattle.tables.proofs.Tests.{either, or-true}
 
 -- ---- what a state knows; `ar` is its arena, and `out` are the bytes handed out so far
 
@@ -57,14 +58,6 @@ pub unheld : (r : Recv) (ar out : List ℕ) (o : ℕ) → (Held (r .chunks) o �
     → seen r ar out o ≡ cond (ltb o (r .flow .consumed)) (Some (getD out o 0)) None
 unheld r ar out o h =
     ap (λ (t : Bool). cond (ltb o (r .flow .consumed)) (Some (getD out o 0)) (cond t (Some (byteAt ar o)) None)) (held-not (r .chunks) o h)
-
-pub some-is : (o : OptionU64) → isSome o ≡ true → (x : ℕ) × (o ≡ Some x)
-some-is None e = clash (sym e)
-some-is (Some x) e = (x, refl)
-
-pub none-is : (o : OptionU64) → isSome o ≡ false → o ≡ None
-none-is None e = refl
-none-is (Some x) e = clash e
 
 module _ (r : Recv) (ar out : List ℕ) (g : Sound r ar out) where
   pub idle-reset : (code : ℕ) → r .error ≡ Some code → (o : ℕ) → Held (r .chunks) o → ⊥

@@ -15,37 +15,17 @@ use Rattle.refusal.specs.declared.OptionU64.the-variants.{None, Some}
 use Rattle.arena.specs.Rules.{byteAt}
 use Rattle.range_buf.specs.declared.RangeBuf.{RangeBuf}
 use Rattle.flowcontrol.specs.declared.FlowControl.{FlowControl}
-use Rattle.recv_buf.specs.State.{Recv, Held}
+use Rattle.recv_buf.specs.State.{Recv}
 use Rattle.recv_buf.specs.Rules.{withChunks, withEnds, chunksAfter, writeJudged, wrote, holds, keptNew, writtenArena}
 use Rattle.recv_buf.specs.Rfc9000.{dataAt, first, isSome, stream}
-use Rattle.recv_buf.proofs.Lists.{holds-held, holds-not, held-holds, held-not, filled-held, held-filled, filled-whole, marked-held, held-marked}
+use Rattle.recv_buf.proofs.Lists.{holds-held, holds-not, held-holds, held-not}
+use Rattle.recv_buf.proofs.Frames.{New, held-wrote, wrote-held}
 use Rattle.recv_buf.proofs.Bytes.{kept-length, kept-stays, kept-new}
 use Rattle.recv_buf.proofs.Kept.{EndFits, end-fits, Accepted, accepted, fits-room, wrote-good}
-use Rattle.recv_buf.proofs.RfcLaws.{dataAt-inside, dataAt-is, dataAt-none}
-use Rattle.recv_buf.proofs.RfcState.{seen, knows, Sound, known-eq, unheld, some-is, none-is, idle}
-use Rattle.refusal.specs.Rules.{known, finWith}
+use Rattle.recv_buf.proofs.RfcLaws.{dataAt-inside, dataAt-is, dataAt-none, some-is, none-is}
+use Rattle.recv_buf.proofs.RfcState.{seen, knows, Sound, known-eq, unheld, idle}
+use Rattle.refusal.specs.Rules.{finWith}
 use Rattle.tables.proofs.Tests.{either, clash, and-true, or-true, or-false}
-
--- the frame brings offset o to a stream that is read on from off
-abbrev New : Recv → ℕ → ℕ → ℕ → Type 0
-New r s n o = (r .off ≤ o) × (s ≤ o) × (o < s + n)
-
--- ---- what the chunks hold after a frame: what they held, and what is new
-
-held-after : (r : Recv) (s n : ℕ) (fin : Bool) (o : ℕ) → Held (r .chunks) o ⊎ New r s n o → Held (chunksAfter r s n fin) o
-held-after r s n fin o h = cond-elim (λ (cs : List RangeBuf). Held cs o) (eqb n 0)
-    (λ e. let z = eqb-true n 0 e in cond-elim (λ (cs : List RangeBuf). Held cs o) (not (known (r .fin)) && fin)
-    (λ d. either h (λ x. held-marked (r .chunks) s o x) (λ x. absurd (omega arith)))
-    (λ d. either h (λ x. x) (λ x. absurd (omega arith))))
-    (λ e. either h (λ x. held-filled (r .chunks) (max s (r .off)) (s + n) o x)
-    (λ x. filled-whole (r .chunks) (max s (r .off)) (s + n) o (omega arith) (x .2)))
-
-after-held : (r : Recv) (s n : ℕ) (fin : Bool) (o : ℕ) → Held (chunksAfter r s n fin) o → Held (r .chunks) o ⊎ New r s n o
-after-held r s n fin o = cond-elim (λ (cs : List RangeBuf). Held cs o → Held (r .chunks) o ⊎ New r s n o) (eqb n 0)
-    (λ e. cond-elim (λ (cs : List RangeBuf). Held cs o → Held (r .chunks) o ⊎ New r s n o) (not (known (r .fin)) && fin)
-    (λ d h. inl (marked-held (r .chunks) s o h))
-    (λ d h. inl h))
-    (λ e h. either (filled-held (r .chunks) (max s (r .off)) (s + n) o h) (λ x. inl x) (λ x. inr (omega arith)))
 
 -- ---- the numbers after an accepted frame that ends at e; `tells` is whether it has bytes or a mark
 
@@ -118,21 +98,6 @@ module _ (r : Recv) (s n : ℕ) (fin : Bool) where
         flush = λ a b. omega arith;
       }
 
-  -- an open stream holds what it held, and what is new
-  held-wrote : r .drain ≡ false → (o : ℕ) → Held (r .chunks) o ⊎ New r s n o → Held ((wrote r s n fin) .chunks) o
-  unfolding wrote
-  held-wrote d o h = cond-elim (λ (x : Recv). Held (x .chunks) o) (eqb n 0 && not fin)
-      (λ e. either h (λ x. x) (λ x. absurd (omega (arith, eqb-true n 0 (and-true (eqb n 0) (not fin) e .0)))))
-      (λ e. cond-elim (λ (x : Recv). Held (x .chunks) o) (r .drain) (λ x. clash (sym x ∙ d)) (λ x. held-after r s n fin o h))
-
-  wrote-held : (o : ℕ) → Held ((wrote r s n fin) .chunks) o → Held (r .chunks) o ⊎ ((r .drain ≡ false) × New r s n o)
-  unfolding wrote
-  wrote-held o = cond-elim (λ (x : Recv). Held (x .chunks) o → Held (r .chunks) o ⊎ ((r .drain ≡ false) × New r s n o)) (eqb n 0 && not fin)
-      (λ e h. inl h)
-      (λ e. cond-elim (λ (x : Recv). Held (x .chunks) o → Held (r .chunks) o ⊎ ((r .drain ≡ false) × New r s n o)) (r .drain)
-      (λ x h. inl h)
-      (λ x h. either (after-held r s n fin o h) (λ y. inl y) (λ y. inr (x, y))))
-
 -- the arena after an accepted frame
 abbrev pub newArena : Recv → List ℕ → ℕ → List ℕ → List ℕ
 newArena r ar s bytes = cond (r .drain) ar (keptNew r ar s bytes)
@@ -163,7 +128,7 @@ module _ (r : Recv) (ar out : List ℕ) (g : Sound r ar out) (s : ℕ) (bytes : 
       ∙ ap (λ (w : FlowControl). cond (ltb o (w .consumed)) (Some (getD out o 0)) None) (t .flow)
       ∙ sym (unheld r ar out o (idle r ar out g c o))
     where
-      still : (r .drain ≡ true) ⊎ (isSome (r .error) ≡ true) → (r .drain ≡ false) × New r s (length bytes) o → ⊥
+      still : (r .drain ≡ true) ⊎ (isSome (r .error) ≡ true) → (r .drain ≡ false) × New r s (length bytes) fin o → ⊥
       still (inl d) h = clash (sym d ∙ h .0)
       still (inr d) h = let p = some-is (r .error) d in omega (arith, nothing-new (p .0) (p .1), h .1)
 
@@ -181,7 +146,7 @@ module _ (r : Recv) (ar out : List ℕ) (g : Sound r ar out) (s : ℕ) (bytes : 
       stored = keptNew r ar s bytes
 
       fits : 0 < length bytes → s + length bytes ≤ r .off + length ar
-      fits h = omega (arith, fits-room r s (length bytes) fin (g .good) d (ok .room) h, g .size)
+      fits h = omega (arith, fits-room r s (length bytes) d (ok .room) h, g .size)
 
       body : r .off ≤ o → (h : Bool) → holds (r .chunks) o ≡ h → (b : OptionU64) → dataAt s bytes o ≡ b
           → cond (holds now o) (Some (byteAt stored o)) None ≡ first (cond h (Some (byteAt ar o)) None) b

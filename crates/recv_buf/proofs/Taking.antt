@@ -7,17 +7,16 @@ use native.Mathlib.Nat.{add-zero}
 use native.Mathlib.Omega.{arith}
 use borrow.Author.Tests.{lt-ltb, le-ltb, le-leb, lt-leb, eq-eqb, ne-eqb}
 use lib.Dec.{ltb, leb, eqb}
-use lib.ListN.{length, take, drop, getD}
+use lib.ListN.{drop, getD}
 use Rattle.tables.proofs.Tables as tables
 use Rattle.refusal.specs.Rules.{M}
 use Rattle.range_buf.specs.declared.RangeBuf.{RangeBuf}
 use Rattle.range_buf.specs.Rules.{start, end, avail, used, zeroBuf}
 use Rattle.recv_buf.specs.declared.RecvBuf.{RecvBuf}
-use Rattle.recv_buf.specs.declared.Reach.{Reach}
 use Rattle.recv_buf.specs.State.{viewOf, Good}
 use Rattle.recv_buf.specs.Rules.{taken, leftOver, takes, adjoining}
-use Rattle.recv_buf.specs.Steps.{putFront, leftAt, Fits, Reached}
-use Rattle.recv_buf.proofs.Good.{table, few, next, done, chain-at, within-at, chunk-good}
+use Rattle.recv_buf.specs.Steps.{putFront, Reached}
+use Rattle.recv_buf.proofs.Good.{table, next, done, chain-at, within-at}
 
 -- ---- a step, by cases
 
@@ -100,24 +99,26 @@ module _ (b : RecvBuf) (g : Good b) (n : ℕ) where
         (ap (λ (l : List RangeBuf). leftOver l (b .off + went) (n - went)) d ∙ sym d)
 
     module _ (lt : i < b .count) where
-      -- a hole before the next chunk
+      -- nothing of the next chunk goes: there is a hole before it, or no room was left when it was reached
+      stays : taken (getD (b .«data») i zeroBuf ∷ drop (i + 1) (viewOf b .chunks)) (b .off + went) (n - went) ≡ 0
+          → leftOver (getD (b .«data») i zeroBuf ∷ drop (i + 1) (viewOf b .chunks)) (b .off + went) (n - went) ≡ getD (b .«data») i zeroBuf ∷ drop (i + 1) (viewOf b .chunks)
+          → Reached b n (record { bytes = went; whole = i; part = 0 })
+      stays k l =
+          let x = next b g i lt in
+          stops (ap (λ (l : List RangeBuf). taken l (b .off + went) (n - went)) x ∙ k) (ap (λ (l : List RangeBuf). leftOver l (b .off + went) (n - went)) x ∙ l ∙ sym x)
+
       pub takes-apart : (start (getD (b .«data») i zeroBuf) ≡ b .off + went → ⊥) → Reached b n (record { bytes = went; whole = i; part = 0 })
       takes-apart h =
-          let x = next b g i lt in
           let c = getD (b .«data») i zeroBuf in
           let cs = drop (i + 1) (viewOf b .chunks) in
-          stops (ap (λ (l : List RangeBuf). taken l (b .off + went) (n - went)) x ∙ taken-apart c cs (b .off + went) (n - went) h)
-          (ap (λ (l : List RangeBuf). leftOver l (b .off + went) (n - went)) x ∙ left-apart c cs (b .off + went) (n - went) h ∙ sym x)
+          stays (taken-apart c cs (b .off + went) (n - went) h) (left-apart c cs (b .off + went) (n - went) h)
 
       module _ (e : start (getD (b .«data») i zeroBuf) ≡ b .off + went) where
-        -- no room was left when the next chunk was reached
         pub takes-full : went ≡ n → Reached b n (record { bytes = went; whole = i; part = 0 })
         takes-full h =
-            let x = next b g i lt in
             let c = getD (b .«data») i zeroBuf in
             let cs = drop (i + 1) (viewOf b .chunks) in
-            stops (ap (λ (l : List RangeBuf). taken l (b .off + went) (n - went)) x ∙ taken-full c cs (b .off + went) (n - went) e (omega arith))
-            (ap (λ (l : List RangeBuf). leftOver l (b .off + went) (n - went)) x ∙ left-full c cs (b .off + went) (n - went) e (omega arith) ∙ sym x)
+            stays (taken-full c cs (b .off + went) (n - went) e (omega arith)) (left-full c cs (b .off + went) (n - went) e (omega arith))
 
         module _ (ne : went ≡ n → ⊥) where
           some : 0 < n - went

@@ -2,10 +2,9 @@
 use mathlib.Core.Path.{_≡_, refl, sym, ap, _∙_}
 use mathlib.Core.Bool.{Bool, true, false, cond, not, _&&_}
 use mathlib.Core.List.{List, [], _∷_, _++_}
-use Prim.Native.Nat.{ℕ, _+_, _-_, _≤_, _<_}
+use Prim.Native.Nat.{ℕ, _+_, _-_, _≤_}
 use native.Mathlib.Omega.{arith}
-use borrow.Author.Tests.{le-ltb, eqb-false}
-use lib.Dec.{ltb, eqb}
+use lib.Dec.{ltb}
 use lib.ListN.{length, drop, getD, length-drop}
 use Rattle.tables.proofs.Tables.{by-test}
 use Rattle.refusal.specs.Rules.{M, after, known, isAt, withBytes}
@@ -15,12 +14,11 @@ use Rattle.refusal.specs.declared.Refusal.{Refusal}
 use Rattle.refusal.specs.declared.Refusal.the-variants.{Offset, Done as NothingReady, Reset, BadSetup}
 use Rattle.refusal.specs.declared.OptionU64.{OptionU64}
 use Rattle.refusal.specs.declared.OptionU64.the-variants.{None, Some}
-use Rattle.refusal.specs.declared.EmitAnswer.{EmitAnswer}
 use Rattle.refusal.specs.declared.EmitAnswer.the-variants.{Emitted, Refused as NoBytes}
 use Rattle.arena.specs.Rules.{held}
 use Rattle.range_buf.specs.declared.RangeBuf.{RangeBuf}
 use Rattle.range_buf.specs.declared.Outcome.{Outcome as ChunkOutcome}
-use Rattle.range_buf.specs.Rules.{avail, used, consumed, zeroBuf}
+use Rattle.range_buf.specs.Rules.{used, consumed, zeroBuf}
 use Rattle.flowcontrol.specs.declared.FlowControl.{FlowControl}
 use Rattle.flowcontrol.specs.declared.Outcome.{Outcome as FlowOutcome}
 use Rattle.flowcontrol.specs.Rules.{consumedMore, withConsumed}
@@ -33,7 +31,9 @@ use Rattle.recv_buf.specs.State.{Recv, viewOf, bufOf, Good}
 use Rattle.recv_buf.specs.Rules.{otherArena, isReady, unlessReset, takes, takeJudged, tookOut, refusedTake, discarded, emitted, emittedOut, withChunks, withEnds, withFlow}
 use Rattle.recv_buf.specs.Steps.{listed, movedTo, readyJudged, putFront, leftAt, tookAt, Fits, Reached}
 use Rattle.recv_buf.proofs.Pushing.{made-of}
-use Rattle.recv_buf.proofs.Judging.{not-both, taken-way, left-way}
+use Rattle.tables.proofs.Tests.{decided, undecided}
+use Rattle.refusal.proofs.Answers.{not-both, bytes-done, bytes-refused}
+use Rattle.range_buf.proofs.Kept.{consumed-in}
 
 -- ---- ready, and not reset
 
@@ -55,10 +55,10 @@ module _ (b : RecvBuf) (g : Good b) where
       → movedTo b t (b .off) (b .len) (b .«fin_off») ≡ bufOf (refusedTake (viewOf b))
   refused-cleared t e r k =
       made-of (withChunks (viewOf b) []) t e (omega arith)
-      ∙ ap bufOf (taken-way (isReady (viewOf b .chunks) (b .off) && known (b .error)) _ _ (rw (r, k)))
+      ∙ ap bufOf (sym (decided {t = isReady (viewOf b .chunks) (b .off) && known (b .error)} (rw (r, k)) _ _))
 
   pub refused-same : (isReady (viewOf b .chunks) (b .off) && known (b .error)) ≡ false → b ≡ bufOf (refusedTake (viewOf b))
-  refused-same e = g .whole ∙ ap bufOf (left-way (isReady (viewOf b .chunks) (b .off) && known (b .error)) _ _ e)
+  refused-same e = g .whole ∙ ap bufOf (sym (undecided e _ _))
 
 -- ---- taking out
 
@@ -73,12 +73,12 @@ module _ (b : RecvBuf) (g : Good b) (at : Reach) where
   took-refused w e why r =
       by-test (ltb M (b .«flow_control» .consumed + at .bytes))
       (λ y. let a : w .answer ≡ Refused Offset = ap (λ (x : FlowOutcome). x .answer) e ∙ rw y in
-      (λ j. record { answer = a j; buf = g .whole j }) ∙ taken-way (ltb M (b .«flow_control» .consumed + at .bytes)) _ _ y)
+      (λ j. record { answer = a j; buf = g .whole j }) ∙ sym (decided y _ _))
       (λ n. not-both (w .answer) why (ap (λ (x : FlowOutcome). x .answer) e ∙ rw n) r)
 
   module _ (f : Fits b at) (k : ChunkOutcome) (cut : k ≡ consumed (getD (viewOf b .chunks) (at .whole) zeroBuf) (at .part)) where
     whole-cut : k ≡ record { answer = Done; buf = used (getD (viewOf b .chunks) (at .whole) zeroBuf) (at .part) }
-    whole-cut = cut ∙ rw (le-ltb (avail (getD (viewOf b .chunks) (at .whole) zeroBuf)) (at .part) (f .part-in))
+    whole-cut = cut ∙ consumed-in (getD (viewOf b .chunks) (at .whole) zeroBuf) (at .part) (f .part-in)
 
     -- no more is cut off a chunk than it has
     pub cut-never : (why : Refusal) {C : Type 0} → k .answer ≡ Refused why → C
@@ -105,7 +105,7 @@ module _ (b : RecvBuf) (g : Good b) (at : Reach) where
           buf = record { «data» = t .«data»; count = t .count; off = b .off + at .bytes; len = b .len; «flow_control» = x; «fin_off» = b .«fin_off»; error = b .error; drain = b .drain; «arena_len» = b .«arena_len» };
         }) u
         ∙ (λ j. record { answer = Done; buf = made-of r t v h j })
-        ∙ left-way (ltb M (b .«flow_control» .consumed + at .bytes)) _ _ n)
+        ∙ sym (undecided n _ _))
 
 -- ---- discard
 
@@ -142,35 +142,26 @@ unfolding discarded tookAt tookOut readyJudged
 discard-took b n at h e =
     let r : Recv = viewOf b in
     let w : takeJudged r n ≡ cond (ltb M (r .flow .consumed + takes r n)) (Refused Offset) Done = judged-then r n ∙ rw e in
-    let s : refusedTake r ≡ r = sym (left-way (isReady (r .chunks) (r .off) && known (r .error)) _ _ (not-told (isReady (r .chunks) (r .off)) (r .error) e)) in
+    let s : refusedTake r ≡ r = undecided (not-told (isReady (r .chunks) (r .off)) (r .error) e) _ _ in
     by-test (ltb M (r .flow .consumed + takes r n))
     (λ y. let v : takeJudged r n ≡ Refused Offset = w ∙ rw y in rw (v, s, h .bytes-are, y))
     (λ z. let v : takeJudged r n ≡ Done = w ∙ rw z in rw (v, h .left-are, h .bytes-are, z))
 
 -- ---- emit
 
--- what the answer says of the judgement
-bytes-refused : (w : Answer) (k : ℕ) (t : Bool) (why : Refusal) → withBytes w k t ≡ NoBytes why → w ≡ Refused why
-bytes-refused Done k t why e = let z : _≡_ {A = ℕ} 0 1 = cc in absurd (omega arith)
-bytes-refused (Refused y) k t why e = let z : y ≡ why = cc in ap Refused z
-
-bytes-done : (w : Answer) (k j : ℕ) (t u : Bool) → withBytes w k t ≡ Emitted j u → (w ≡ Done) × (j ≡ k)
-bytes-done Done k j t u e = let z : k ≡ j = cc in (refl, sym z)
-bytes-done (Refused y) k j t u e = let z : _≡_ {A = ℕ} 0 1 = cc in absurd (omega arith)
-
 module _ (b : RecvBuf) (g : Good b) (ar out : List ℕ) where
   pub emit-bad : otherArena (viewOf b) (length ar) ≡ true
       → (_≡_ {A = EmitOutcome} (record { answer = NoBytes BadSetup; buf = b }) (emitted (viewOf b) (length ar) (length out))) × (out ≡ emittedOut (viewOf b) ar out)
   unfolding emitted emittedOut
   emit-bad e = (
-    (λ j. record { answer = NoBytes BadSetup; buf = g .whole j }) ∙ taken-way (otherArena (viewOf b) (length ar)) _ _ e,
-    taken-way (otherArena (viewOf b) (length ar)) _ _ e,
+    (λ j. record { answer = NoBytes BadSetup; buf = g .whole j }) ∙ sym (decided e _ _),
+    sym (decided e _ _),
   )
 
   module _ (ok : otherArena (viewOf b) (length ar) ≡ false) (took : EmitOutcome) (e : took ≡ discarded (viewOf b) (length out)) where
     pub emit-same : took ≡ emitted (viewOf b) (length ar) (length out)
     unfolding emitted
-    emit-same = e ∙ left-way (otherArena (viewOf b) (length ar)) _ _ ok
+    emit-same = e ∙ sym (undecided ok _ _)
 
     pub emit-refused : (why : Refusal) → took .answer ≡ NoBytes why → out ≡ emittedOut (viewOf b) ar out
     unfolding emittedOut discarded
@@ -182,7 +173,8 @@ module _ (b : RecvBuf) (g : Good b) (ar out : List ℕ) where
       judged-done : (takeJudged (viewOf b) (length out) ≡ Done) × (k ≡ takes (viewOf b) (length out))
       unfolding discarded
       judged-done =
-          bytes-done (takeJudged (viewOf b) (length out)) (takes (viewOf b) (length out)) k _ fin (sym (ap (λ (x : EmitOutcome). x .answer) e) ∙ r)
+          let p = bytes-done (takeJudged (viewOf b) (length out)) (takes (viewOf b) (length out)) _ k fin (sym (ap (λ (x : EmitOutcome). x .answer) e) ∙ r) in
+          (p .0, sym (p .1))
 
       pub emit-count : k ≡ takes (viewOf b) (length out)
       emit-count = judged-done .1
@@ -190,13 +182,3 @@ module _ (b : RecvBuf) (g : Good b) (ar out : List ℕ) where
       pub emit-done : (last : List ℕ) → last ≡ held ar (b .off) k ++ drop k out → last ≡ emittedOut (viewOf b) ar out
       unfolding emittedOut
       emit-done last h = h ∙ rw (emit-count, ok, judged-done .0)
-
-    -- the arena has places
-    pub emit-places : 0 < length ar
-    emit-places = by-test (eqb (length ar) 0) (λ y. absurd (never (rw y at ok))) (λ n. some (length ar) n)
-      where
-        never : true ≡ false → ⊥
-        never h = let z : _≡_ {A = ℕ} 0 1 = cc in omega arith
-
-        some : (a : ℕ) → eqb a 0 ≡ false → 0 < a
-        some a n = omega (arith, eqb-false a 0 n)

@@ -1,6 +1,6 @@
 -- What a frame does, by its judgement. Assumes nothing.
 use mathlib.Core.Path.{_≡_, refl, sym, ap, _∙_}
-use mathlib.Core.Bool.{Bool, true, false, cond, not, _&&_, _||_}
+use mathlib.Core.Bool.{Bool, true, false, cond, not, _&&_, and-false}
 use mathlib.Core.List.{List, [], _∷_}
 use Prim.Native.Nat.{ℕ, _+_, _-_, _≤_, _<_, max}
 use native.Mathlib.Omega.{arith}
@@ -21,7 +21,9 @@ use Rattle.recv_buf.specs.State.{Recv, viewOf, bufOf, Good}
 use Rattle.recv_buf.specs.Rules.{otherArena, passesFinal, noRoom, noEntry, markedAt, chunksAfter, writeJudged, wrote, keptNew, written, writtenArena, withChunks, withEnds}
 use Rattle.recv_buf.specs.Steps.{listed, movedTo, frameJudged}
 use Rattle.recv_buf.proofs.Pushing.{made-of}
-use Rattle.recv_buf.proofs.Judging.{not-both, first-refused, taken-way, left-way}
+use Rattle.recv_buf.proofs.Judging.{first-refused}
+use Rattle.tables.proofs.Tests.{decided, undecided}
+use Rattle.refusal.proofs.Chain.{passes}
 
 -- ---- the last refusal comes behind the others
 
@@ -74,8 +76,8 @@ module _ (r : Recv) (a s n : ℕ) (fin : Bool) where
 pub frame-in : (r : Recv) (a s n : ℕ) (fin : Bool) → frameJudged r a s n fin ≡ Done → s + n ≤ M
 unfolding frameJudged
 frame-in r a s n fin e =
-    by-test (otherArena r a) (λ y. not-both _ BadSetup e (rw y))
-    (λ m. by-test (ltb M (s + n)) (λ y. not-both _ Offset e (rw (m, y))) (λ k. ltb-false M (s + n) k))
+    let p = passes (otherArena r a) BadSetup _ e in
+    ltb-false M (s + n) (passes (ltb M (s + n)) Offset _ (p .1) .0)
 
 -- ---- by cases
 
@@ -85,12 +87,8 @@ nothing-same r s n true e =
     by-test (eqb n 0) (λ y. let h : false ≡ true = rw y at e in let z : _≡_ {A = ℕ} 0 1 = cc in absurd (omega arith))
     (λ y. let h : false ≡ true = rw y at e in let z : _≡_ {A = ℕ} 0 1 = cc in absurd (omega arith))
 nothing-same r s n false e =
-    by-test (eqb n 0) (λ y. (eqb-true n 0 y, rw y (go (known (r .fin)) (markedAt (r .chunks) s))))
+    by-test (eqb n 0) (λ y. (eqb-true n 0 y, rw y (undecided (and-false (not (known (r .fin)))) (markedAt (r .chunks) s) (r .chunks))))
     (λ y. let h : false ≡ true = rw y at e in let z : _≡_ {A = ℕ} 0 1 = cc in absurd (omega arith))
-  where
-    go : (t : Bool) (x : List RangeBuf) → cond (not t && false) x (r .chunks) ≡ r .chunks
-    go true x = refl
-    go false x = refl
 
 no-bytes : (r : Recv) (ar : List ℕ) (s : ℕ) (bytes : List ℕ) → length bytes ≡ 0 → keptNew r ar s bytes ≡ ar
 no-bytes r ar s [] e = refl
@@ -119,12 +117,8 @@ module _ (b : RecvBuf) (g : Good b) (ar : List ℕ) (s : ℕ) (bytes : List ℕ)
     write-nothing e =
         let same = nothing-same (viewOf b) s (length bytes) fin e in
         let few : ltb 64 (length (chunksAfter (viewOf b) s (length bytes) fin)) ≡ false = ap (λ (l : List RangeBuf). ltb 64 (length l)) (same .1) ∙ le-ltb 64 (length (viewOf b .chunks)) (g .facts .few) in
-        let w : writeJudged (viewOf b) (length ar) s (length bytes) fin ≡ Done = judged ∙ rw few (go (b .drain)) in
+        let w : writeJudged (viewOf b) (length ar) s (length bytes) fin ≡ Done = judged ∙ rw few (undecided (and-false (not (b .drain))) _ _) in
         (rw (w, e) (λ j. record { answer = Done; buf = g .whole j }), rw w (same-either (b .drain) _ _ (no-bytes (viewOf b) ar s bytes (same .0))))
-      where
-        go : (t : Bool) → cond (not t && false) (Refused TableFull) Done ≡ Done
-        go true = refl
-        go false = refl
 
     module _ (some : (eqb (length bytes) 0 && not fin) ≡ false) where
       -- after shutdown
@@ -134,8 +128,8 @@ module _ (b : RecvBuf) (g : Good b) (ar : List ℕ) (s : ℕ) (bytes : List ℕ)
       unfolding written writtenArena wrote
       write-passed d x e =
           let w : writeJudged (viewOf b) (length ar) s (length bytes) fin ≡ Done = judged ∙ ap (λ (t : Bool). cond (not t && ltb 64 (length (chunksAfter (viewOf b) s (length bytes) fin))) (Refused TableFull) Done) d in
-          let v = taken-way (b .drain) (withEnds (viewOf b) (max (b .len) (s + length bytes)) (max (b .len) (s + length bytes)) (finWith (b .«fin_off») (s + length bytes) fin)) _ d in
-          (rw (w, some) (λ j. record { answer = Done; buf = (e ∙ ap bufOf v) j }), rw w (taken-way (b .drain) ar _ d))
+          let v = sym (decided d (withEnds (viewOf b) (max (b .len) (s + length bytes)) (max (b .len) (s + length bytes)) (finWith (b .«fin_off») (s + length bytes) fin)) _) in
+          (rw (w, some) (λ j. record { answer = Done; buf = (e ∙ ap bufOf v) j }), rw w (sym (decided d ar _)))
 
       module _ (shown : b .drain ≡ false) where
         -- a 65th chunk would be needed
@@ -157,5 +151,5 @@ module _ (b : RecvBuf) (g : Good b) (ar : List ℕ) (s : ℕ) (bytes : List ℕ)
             let w : writeJudged (viewOf b) (length ar) s (length bytes) fin ≡ Done =
             judged ∙ ap (λ (x : Bool). cond (not x && ltb 64 (length (chunksAfter (viewOf b) s (length bytes) fin))) (Refused TableFull) Done) shown ∙ rw (le-ltb 64 (length (chunksAfter (viewOf b) s (length bytes) fin)) h) in
             let r : Recv = withEnds (withChunks (viewOf b) (chunksAfter (viewOf b) s (length bytes) fin)) (b .off) (max (b .len) (s + length bytes)) (finWith (b .«fin_off») (s + length bytes) fin) in
-            let v = left-way (b .drain) _ r shown in
-            (rw (w, some) (λ j. record { answer = Done; buf = (made-of r t e h ∙ ap bufOf v) j }), k ∙ rw w (left-way (b .drain) ar _ shown))
+            let v = sym (undecided shown _ r) in
+            (rw (w, some) (λ j. record { answer = Done; buf = (made-of r t e h ∙ ap bufOf v) j }), k ∙ rw w (sym (undecided shown ar _)))

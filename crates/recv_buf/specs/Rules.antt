@@ -17,10 +17,7 @@ use Rattle.refusal.specs.Rules.{M, after, known, isAt, isOther, finWith, withBy
 use Rattle.refusal.specs.declared.Answer.{Answer}
 use Rattle.refusal.specs.declared.Answer.the-variants.{Done, Refused}
 use Rattle.refusal.specs.declared.CountAnswer.the-variants.{Count, Refused as NoCount}
-use Rattle.refusal.specs.declared.EmitAnswer.{EmitAnswer}
-use Rattle.refusal.specs.declared.EmitAnswer.the-variants.{Emitted, Refused as NoBytes}
-use Rattle.refusal.specs.declared.SizesAnswer.{SizesAnswer}
-use Rattle.refusal.specs.declared.SizesAnswer.the-variants.{Sizes, Refused as NoSizes}
+use Rattle.refusal.specs.declared.EmitAnswer.the-variants.{Refused as NoBytes}
 use Rattle.refusal.specs.declared.Refusal.the-variants.{Offset, FinalSize, FlowControl as OverLimit, NoRoom, TableFull, Done as NothingReady, Reset, BadSetup}
 use Rattle.refusal.specs.declared.OptionU64.{OptionU64}
 use Rattle.refusal.specs.declared.OptionU64.the-variants.{None, Some}

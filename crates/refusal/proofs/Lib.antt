@@ -1,3 +1,4 @@
 -- The laws of the vocabulary.
 pub mod Chain
+pub mod Answers
 pub mod Unique

@@ -8,7 +8,6 @@ use Rattle.refusal.specs.declared.Answer.{Answer}
 use Rattle.refusal.specs.declared.Answer.the-variants.{Done, Refused}
 use Rattle.refusal.specs.declared.OptionU64.the-variants.{Some}
 use Rattle.send_buf.proofs.Acked.{upto-weak}
-use Rattle.send_buf.proofs.Facts.{acked-emitted}
 use Rattle.send_buf.specs.Rules.{ackJudged, ackedMore, acks, cutOff, neverSent, resets, shuts, stops, unsent, wasReset, withClosed}
 use Rattle.send_buf.specs.State.{Good, Send, Upto, bufOf, viewOf}
 use Rattle.send_buf.specs.Steps.{endedAt, setError, setShut}
@@ -96,7 +95,7 @@ module _ (b : SendBuf) (g : Good b) where
   pub reset-room : needsRoom 64 (upto 0 (cutOff (viewOf b))) (ranges (b .acked)) ≡ false
   reset-room =
       zero-room (cutOff (viewOf b)) (ranges (b .acked)) (g .facts .acked-order)
-      (upto-weak (b .«emit_off») (cutOff (viewOf b)) (ranges (b .acked)) (omega arith) (acked-emitted (viewOf b) (g .facts)))
+      (upto-weak (b .«emit_off») (cutOff (viewOf b)) (ranges (b .acked)) (omega arith) (g .facts .acked-in))
 
 -- a reset, from the end that it finds, the set that holds all up to there, and the bytes never sent
 pub resets-at : (b : SendBuf) (e : ℕ) (a : RangeSet) (u : ℕ) → e ≡ cutOff (viewOf b) → a ≡ setOf 64 (placed (upto 0 (cutOff (viewOf b))) (ranges (b .acked))) → u ≡ b .off - e

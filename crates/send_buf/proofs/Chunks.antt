@@ -75,10 +75,6 @@ front-in zero lo cs hi k = front-within lo cs hi k
 front-in (suc i) lo [] hi k = (omega arith, omega arith)
 front-in (suc i) lo (c ∷ cs) hi k = let h = front-in i (end c) cs hi (k .3) in (omega arith, h .1)
 
-pub front-nil : (i off : ℕ) → frontOf (drop i []) off ≡ off
-front-nil zero off = refl
-front-nil (suc i) off = refl
-
 pub skipped-le : (cs : List RangeBuf) → skipped cs ≤ length cs
 skipped-le [] = omega arith
 skipped-le (c ∷ cs) = cond-elim (λ (x : ℕ). x ≤ suc (length cs)) (ltb 0 (avail c)) (λ e. omega arith) (λ e. omega (arith, skipped-le cs))
@@ -124,10 +120,6 @@ finished-le (c ∷ cs) next n =
 pub advanced-none : (cs : List RangeBuf) (next n : ℕ) → n ≡ 0 → advanced cs next n ≡ cs
 advanced-none [] next n e = refl
 advanced-none (c ∷ cs) next n e = rw (le-ltb 0 n (omega arith))
-
-pub advanced-nil : (i next n : ℕ) → advancedFrom i [] next n ≡ []
-advanced-nil zero next n = refl
-advanced-nil (suc i) next n = refl
 
 adj-advanced : (lo : ℕ) (cs : List RangeBuf) (hi next n : ℕ) → Adjoin lo cs hi → Adjoin lo (advanced cs next n) hi
 adj-advanced lo [] hi next n k = k

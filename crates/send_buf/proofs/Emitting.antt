@@ -1,6 +1,6 @@
 -- The loop that copies bytes out: to copy on from here gives what the contract says. Assumes nothing.
 use Prim.Native.Nat.{_+_, _-_, _<_, _≤_, min, suc, ℕ}
-use Rattle.arena.specs.Rules.{handed, held}
+use Rattle.arena.specs.Rules.{held}
 use Rattle.range_buf.specs.Rules.{avail, consumed, end, start, used, zeroBuf}
 use Rattle.range_buf.specs.declared.RangeBuf.{RangeBuf}
 use Rattle.refusal.specs.Rules.{M, isAt}
@@ -16,14 +16,14 @@ use Rattle.send_buf.specs.Steps.{chunksAfter, copiedOut, outAfter, sentT
 use Rattle.send_buf.specs.declared.EmitOutcome.{EmitOutcome}
 use Rattle.send_buf.specs.declared.SendBuf.{SendBuf}
 use Rattle.tables.specs.Lists.{tableOf}
-use borrow.Author.Tests.{eq-eqb, eqb-false, eqb-true, le-leb, le-ltb, lt-leb, lt-ltb, ltb-true}
+use borrow.Author.Tests.{eq-eqb, eqb-true, le-leb, lt-leb, lt-ltb, ltb-true}
 use denote.Enum.Declared.{tagOf}
 use lib.Dec.{eqb, ltb}
-use lib.ListN.{drop, drop-of-length-le, getD, length, length-append, length-drop, length-set, replicate, set, take, take-append-drop}
-use lib.Seq.{drop-at, drop-cons, drop-drop, length-take-le, set-split, take-all, take-at, take-suc-set}
-use mathlib.Core.Bool.{Bool, _&&_, false, not, true}
-use mathlib.Core.List.{List, [], _++_, _∷_, append-assoc, append-nil}
-use mathlib.Core.Path.{_∙_, _≡_, ap, refl, sym}
+use lib.ListN.{drop, getD, length, length-append, length-drop, length-set, replicate, set, take, take-append-drop}
+use lib.Seq.{drop-at, drop-cons, drop-drop, length-take-le, set-split, take-suc-set}
+use mathlib.Core.Bool.{Bool, _&&_, false, true}
+use mathlib.Core.List.{List, [], _++_, _∷_, append-assoc}
+use mathlib.Core.Path.{_∙_, _≡_, ap, refl, subst, sym}
 use native.Mathlib.Nat.{add-zero, zero-add}
 use native.Mathlib.Numerals.{add-one}
 use native.Mathlib.Omega.{arith}
@@ -38,42 +38,12 @@ use Rattle.send_buf.proofs.Good.{done as behind}
 use lib.Seq.{drop-append-le}
 use borrow.Rule.Slice.PartMut.{putMid}
 use lib.Seq.{take-take}
-use Rattle.arena.proofs.Laws.{handed-held, length-held, held-add, held-none}
+use Rattle.arena.proofs.Laws.{length-held, held-none}
+use Rattle.arena.proofs.Parts.{placed-more, room-left, room-used}
+use Rattle.range_buf.proofs.Kept.{consumed-in}
 use Rattle.range_buf.specs.State.{Good as GoodChunk}
 use Rattle.send_buf.proofs.Good.{slots as table-slots}
-use Rattle.tables.proofs.Tests.{and-true, or-false}
-
--- ---- the output
-
--- a part that is filled from its front
-pub filled-front : (ar out last : List ℕ) (o k : ℕ) → 0 < length ar → k ≤ length out → last ≡ handed ar o (take (k - 0) out) → last ++ drop (k - 0) out ≡ held ar o k ++ drop k out
-filled-front ar out last o k h l e =
-    let z : k - 0 ≡ k = omega arith in
-    rw (e, z, handed-held ar o (take k out) h, length-take-le k out l)
-
--- k bytes more, straight behind those already placed
-placed-more : (ar out₀ out last : List ℕ) (o done k at : ℕ) → at ≡ o + done → done ≤ length out₀
-    → out ≡ held ar o done ++ drop done out₀
-    → last ≡ held ar at k ++ drop k (take (length out - done) (drop done out))
-    → putMid done (length out - done) out last ≡ held ar o (done + k) ++ drop (done + k) out₀
-placed-more ar out₀ out last o done k at e h p q =
-    let x : List ℕ = held ar o done in
-    let rest : List ℕ = drop done out₀ in
-    let y : List ℕ = held ar at k in
-    let lx : length x ≡ done = length-held ar o done in
-    let lr : length rest ≡ length out₀ - done = length-drop done out₀ in
-    let lo : length out ≡ length x + length rest = ap length p ∙ length-append x rest in
-    let tail : drop done out ≡ rest = ap (drop done) p ∙ drop-at x rest done lx in
-    let full : take (length out - done) (drop done out) ≡ rest = ap (take (length out - done)) tail ∙ take-all (length out - done) rest (omega arith) in
-    let filled : last ≡ y ++ drop (done + k) out₀ = q ∙ ap (λ (l : List ℕ). y ++ drop k l) full ∙ ap (λ (l : List ℕ). y ++ l) (drop-drop k done out₀) in
-    let none : drop (length out - done) rest ≡ [] = drop-of-length-le rest {i = length out - done} (omega arith) in
-    let put : putMid done (length out - done) (x ++ rest) last ≡ x ++ last =
-    rw (take-at x rest done lx, drop-at x rest done lx, none, append-nil) in
-    ap (λ (l : List ℕ). putMid done (length out - done) l last) p
-    ∙ put
-    ∙ ap (λ (l : List ℕ). x ++ l) filled
-    ∙ sym (append-assoc x y (drop (done + k) out₀))
-    ∙ ap (λ (l : List ℕ). l ++ drop (done + k) out₀) (ap (λ (n : ℕ). x ++ held ar n k) e ∙ sym (held-add ar o done k))
+use Rattle.tables.proofs.Tests.{and-true}
 
 -- ---- the loop
 
@@ -100,23 +70,14 @@ min-all k r len pos e h = (omega arith, omega arith)
 min-some : (k r len pos : ℕ) → k ≡ min r (len - pos) → 0 < len - (pos + k) → (r < len - pos) × (k ≡ r)
 min-some k r len pos e h = (omega arith, omega arith)
 
-room-used : (n done k : ℕ) → k ≡ n - done → n - (done + k) ≡ 0
-room-used n done k e = omega arith
-
-room-left : (n done k a : ℕ) → k ≡ a → n - done - a ≡ n - (done + k)
-room-left n done k a e = omega arith
-
 none-left : (n a : ℕ) → n < a → n - a ≡ 0
 none-left n a h = omega arith
 
 -- a chunk is consumed by no more than it has left
 pub ate : (c : RangeBuf) (k : ℕ) (o : ChunkOutcome) → k ≤ avail c → o ≡ consumed c k → (o .answer ≡ Done) × (o .buf ≡ used c k)
 ate c k o h e =
-    let f : consumed c k ≡ record { answer = Done; buf = used c k } = simp (le-ltb _ _ h) in
-    (ap (λ (x : ChunkOutcome). x .answer) (e ∙ f), ap (λ (x : ChunkOutcome). x .buf) (e ∙ f))
-
-pub used-good : (c : RangeBuf) (k : ℕ) → GoodChunk c → k ≤ avail c → GoodChunk (used c k)
-used-good c k g h = record { used-in = omega (arith, g .used-in); end-in = g .end-in }
+    let f = e ∙ consumed-in c k h in
+    (ap (λ (x : ChunkOutcome). x .answer) f, ap (λ (x : ChunkOutcome). x .buf) f)
 
 finished-none : (l : List RangeBuf) (o n : ℕ) → n ≡ 0 → finished l o n ≡ 0
 finished-none [] o n e = refl
@@ -234,9 +195,9 @@ module _ (ar out₀ : List ℕ) (b : SendBuf) (g : Good b) where
         }
 
       -- the chunk is used up
-      pub full : avail (used (getD (t .«data») i zeroBuf) k) ≤ 0
+      used-up : avail (used (getD (t .«data») i zeroBuf) k) ≤ 0
           → Emitting ar out₀ b (putMid done (length out - done) out last) (setTable t (set (t .«data») i (used (getD (t .«data») i zeroBuf) k)) (t .count)) (i + 1) (i + 1) (done + k)
-      full h =
+      used-up h =
           let c = getD (b .«data») i zeroBuf in
           let a : avail (used c k) ≤ 0 = rw (← entry-same) h in
           let w = chunk-in b g i low in
@@ -251,10 +212,10 @@ module _ (ar out₀ : List ℕ) (b : SendBuf) (g : Good b) where
           moved (i + 1) (omega arith) (rw (o, r)) (rw (o, r)) (omega (arith, f, f′))
 
       -- some of it is left: the output is full
-      pub part : 0 < avail (used (getD (t .«data») i zeroBuf) k)
+      some-left : 0 < avail (used (getD (t .«data») i zeroBuf) k)
           → Emitting ar out₀ b (putMid done (length out - done) out last) (setTable t (set (t .«data») i (used (getD (t .«data») i zeroBuf) k)) (t .count)) (i + 1) i (done + k)
           × (length out₀ - (done + k) ≡ 0)
-      part h =
+      some-left h =
           let c = getD (b .«data») i zeroBuf in
           let a : 0 < avail (used c k) = rw (← entry-same) h in
           let y = min-some k (length out₀ - done) (c .len) (c .pos) is′ a in
@@ -271,6 +232,22 @@ module _ (ar out₀ : List ℕ) (b : SendBuf) (g : Good b) where
                 (ap (λ (y : ℕ). i + y) (finished-none l x (length out₀ - (done + k)) z ∙ sym f)),
             z,
           )
+
+      -- the same of the chunk u that the code has then
+      module _ (u : RangeBuf) (e : u ≡ used (getD (t .«data») i zeroBuf) k) where
+        pub full : avail u ≤ 0 → Emitting ar out₀ b (putMid done (length out - done) out last) (setTable t (set (t .«data») i u) (t .count)) (i + 1) (i + 1) (done + k)
+        full = subst
+            (λ (v : RangeBuf). avail v ≤ 0 → Emitting ar out₀ b (putMid done (length out - done) out last) (setTable t (set (t .«data») i v) (t .count)) (i + 1) (i + 1) (done + k))
+            (sym e) used-up
+
+        pub part : 0 < avail u
+            → Emitting ar out₀ b (putMid done (length out - done) out last) (setTable t (set (t .«data») i u) (t .count)) (i + 1) i (done + k)
+            × (length out₀ - (done + k) ≡ 0)
+        part = subst
+            (λ (v : RangeBuf). 0 < avail v
+            → Emitting ar out₀ b (putMid done (length out - done) out last) (setTable t (set (t .«data») i v) (t .count)) (i + 1) i (done + k)
+            × (length out₀ - (done + k) ≡ 0))
+            (sym e) some-left
 
   -- ---- the ways out
 
@@ -330,12 +307,6 @@ module _ (s : Send) (ar out : List ℕ) where
   pub emits-bad : otherArena s (length ar) ≡ true → (emitted s (length ar) (length out) ≡ record { answer = NoBytes BadSetup; buf = bufOf s }) × (emittedOut s ar out ≡ out)
   unfolding emitted emittedOut
   emits-bad e = (simp e, simp e)
-
-  -- the right arena has bytes
-  pub arena-some : otherArena s (length ar) ≡ false → 0 < length ar
-  arena-some e =
-      let z : length ar ≡ 0 → ⊥ = eqb-false (length ar) 0 (or-false (eqb (length ar) 0) (not (eqb (length ar) (s .room))) e .0) in
-      omega (arith, z)
 
   module _ (o : Copied) (is : o ≡ copiedOut s (length out)) (k : ℕ) (ok : o .answer ≡ Count k) where
     pub counted : k ≡ emitCount s (length out)

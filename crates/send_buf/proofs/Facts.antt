@@ -2,14 +2,14 @@
 -- Assumes nothing.
 use mathlib.Core.Path.{_≡_, refl, sym, ap, _∙_}
 use mathlib.Core.Logic.{_⊎_}
-use mathlib.Core.Bool.{Bool, true, false, cond, not}
+use mathlib.Core.Bool.{Bool, true, false, cond}
 use mathlib.Core.List.{List, [], _∷_}
 use Prim.Native.Nat.{ℕ, _+_, _-_, _%_, _≤_, _<_, min}
 use native.Mathlib.Omega.{arith}
-use lib.Dec.{ltb, leb, eqb}
+use lib.Dec.{ltb, leb}
 use lib.ListN.{length, take, drop, getD, length-append, length-take, length-drop}
 use lib.Seq.{take-at, drop-at}
-use borrow.Author.Tests.{leb-true, ltb-false, eqb-true, not-false}
+use borrow.Author.Tests.{leb-true, ltb-false}
 use Rattle.refusal.specs.Rules.{M, withCount, after, known}
 use Rattle.refusal.specs.declared.Refusal.{Refusal}
 use Rattle.refusal.specs.declared.Answer.{Answer}
@@ -17,35 +17,30 @@ use Rattle.refusal.specs.declared.Answer.the-variants.{Done, Refused}
 use Rattle.refusal.specs.declared.CountAnswer.the-variants.{Refused as NoCount}
 use Rattle.refusal.specs.declared.EmitAnswer.the-variants.{Refused as NoBytes}
 use Rattle.refusal.specs.declared.SizesAnswer.the-variants.{Refused as NoSizes}
+use Rattle.refusal.proofs.Answers.{after-elim}
 use Rattle.arena.specs.Rules.{held}
+use Rattle.arena.proofs.Places.{right-arena}
 use Rattle.arena.proofs.Laws.{length-kept, length-held, kept-elsewhere, held-before, held-kept}
-use Rattle.range_buf.specs.declared.RangeBuf.{RangeBuf}
 use Rattle.ranges.specs.State.{upto}
 use Rattle.ranges.specs.Rules.{memberOf, placed}
+use Rattle.ranges.proofs.Members.{placed-new, placed-old, placed-only}
 use Rattle.tables.proofs.Tables.{by-test, cond-elim}
 use Rattle.send_buf.specs.declared.SendBuf.{SendBuf}
 use Rattle.send_buf.specs.declared.Outcome.{Outcome}
 use Rattle.send_buf.specs.declared.EmitOutcome.{EmitOutcome}
 use Rattle.send_buf.specs.declared.SizesOutcome.{SizesOutcome}
-use Rattle.send_buf.specs.State.{Send, viewOf, bufOf, base, Upto, GoodSend, Good}
+use Rattle.send_buf.specs.State.{Send, viewOf, bufOf, base, GoodSend, Good}
 use Rattle.send_buf.specs.Rules.{otherArena, ackOff, accepted, writeJudged, written, writtenArena, front, first, emitCount, sent, emitted, emittedOut, ackJudged, ackedMore, acks, dropBytes, dropped, ackDrops, settled, lossJudged, lost, lostBytes, retransmits, cutOff, unsent, stops, shuts, raised}
 use Rattle.send_buf.proofs.Chunks.{front-in, copied-in, copied-le, total-sent, total-behind}
 use Rattle.send_buf.proofs.Position.{copied-some, front-below}
-use Rattle.send_buf.proofs.Acked.{upto-weak, ack-upto, placed-new, placed-old, placed-only, placed-all}
-use Rattle.send_buf.proofs.Judged.{after-elim, writes}
-use Rattle.tables.proofs.Tests.{either, or-false}
+use Rattle.send_buf.proofs.Acked.{upto-weak, ack-upto, placed-all}
+use Rattle.send_buf.proofs.Judged.{writes}
+use Rattle.tables.proofs.Tests.{decided}
 
 module _ (s : Send) (g : GoodSend s) where
-  -- what is acked was emitted, after a reset too: then no chunk is left, and all was emitted
-  pub acked-emitted : Upto (s .emitted) (s .acked)
-  acked-emitted =
-      either (g .acked-in) (λ h. h)
-      (λ h. let e : base (s .chunks) (s .off) ≡ s .off = ap (λ (cs : List RangeBuf). base cs (s .off)) (h .0) in
-      upto-weak (s .off) (s .emitted) (s .acked) (omega (arith, g .base-in)) (h .2))
-
   -- contiguous ack never passes what was emitted, nor the end offset
   pub ack-emitted : ackOff (s .acked) ≤ s .emitted
-  ack-emitted = ack-upto (s .emitted) (s .acked) acked-emitted
+  ack-emitted = ack-upto (s .emitted) (s .acked) (g .acked-in)
 
   pub ack-le : ackOff (s .acked) ≤ s .off
   ack-le = omega (arith, ack-emitted, g .emitted-in)
@@ -70,7 +65,7 @@ module _ (s : Send) (g : GoodSend s) where
 
   -- and the range that it acks swallows all others
   pub reset-single : placed (upto 0 (cutOff s)) (s .acked) ≡ upto 0 (cutOff s) ∷ []
-  reset-single = placed-all (cutOff s) (s .acked) (g .acked-order) (upto-weak (s .emitted) (cutOff s) (s .acked) (omega arith) acked-emitted)
+  reset-single = placed-all (cutOff s) (s .acked) (g .acked-order) (upto-weak (s .emitted) (cutOff s) (s .acked) (omega arith) (g .acked-in))
 
   -- the front lies within the chunks, and an emit copies no more than there is, nor than there is room for
   pub front-low : base (s .chunks) (s .off) ≤ front s
@@ -132,9 +127,6 @@ first-of : {A B : Type 0} (f : A → B) (t : Bool) (x y : A) (v : B) → (f y �
 first-of f true x y v n e = refl
 first-of f false x y v n e = absurd (n e)
 
-is-first : {A : Type 0} {t : Bool} → t ≡ true → (x y : A) → cond t x y ≡ x
-is-first {t} e x y = ap (λ (t : Bool). cond t x y) e
-
 -- each call, refused: the buffer is b, and arena and output are as they were
 pub record Keeps (b : SendBuf) : Type 0 where
   pub write : (ar input : List ℕ) (fin : Bool) (why : Refusal) → written (viewOf b) (length ar) (length input) fin .answer ≡ NoCount why
@@ -148,65 +140,29 @@ pub record Keeps (b : SendBuf) : Type 0 where
   pub shutdown : (why : Refusal) → shuts (viewOf b) .answer ≡ NoSizes why → shuts (viewOf b) .buf ≡ b
   pub update-max-data : (limit : ℕ) (why : Refusal) → raised (viewOf b) limit .answer ≡ Refused why → raised (viewOf b) limit .buf ≡ b
 
-module _ (b : SendBuf) (g : Good b) where
-  write-refused : (ar input : List ℕ) (fin : Bool) (why : Refusal) → written (viewOf b) (length ar) (length input) fin .answer ≡ NoCount why
-      → (written (viewOf b) (length ar) (length input) fin .buf ≡ b) × (writtenArena (viewOf b) ar input fin ≡ ar)
-  unfolding written writtenArena
-  write-refused ar input fin why e = (
+pub refusal-keeps : (b : SendBuf) → Good b → Keeps b
+unfolding written writtenArena emitted emittedOut acks ackDrops retransmits stops shuts raised
+refusal-keeps b g = record {
+  write = λ ar input fin why e. (
     ap bufOf (counted (writeJudged (viewOf b) (length ar) (length input) fin) _ why _ (viewOf b) e) ∙ sym (g .whole),
     counted (writeJudged (viewOf b) (length ar) (length input) fin) _ why _ ar e,
-  )
-
-  emit-refused : (ar out : List ℕ) (why : Refusal) → emitted (viewOf b) (length ar) (length out) .answer ≡ NoBytes why
-      → (emitted (viewOf b) (length ar) (length out) .buf ≡ b) × (emittedOut (viewOf b) ar out ≡ out)
-  unfolding emitted emittedOut
-  emit-refused ar out why e =
-      let t : Bool = otherArena (viewOf b) (length ar) in
-      let h : t ≡ true = first-of (λ (o : EmitOutcome). o .answer) t _ _ (NoBytes why) (λ q. let z : _≡_ {A = ℕ} 0 1 = cc in omega arith) e in
-      (simp h (sym (g .whole)), simp h)
-
-  ack-refused : (a n : ℕ) (why : Refusal) → acks (viewOf b) a n .answer ≡ Refused why → acks (viewOf b) a n .buf ≡ b
-  unfolding acks
-  ack-refused a n why e = ap bufOf (plain (ackJudged (viewOf b) a n) why _ (viewOf b) e) ∙ sym (g .whole)
-
-  drop-refused : (a n : ℕ) (why : Refusal) → ackDrops (viewOf b) a n .answer ≡ NoCount why → ackDrops (viewOf b) a n .buf ≡ b
-  unfolding ackDrops
-  drop-refused a n why e = ap bufOf (counted (ackJudged (viewOf b) a n) _ why _ (viewOf b) e) ∙ sym (g .whole)
-
-  loss-refused : (a n : ℕ) (why : Refusal) → retransmits (viewOf b) a n .answer ≡ NoCount why → retransmits (viewOf b) a n .buf ≡ b
-  unfolding retransmits
-  loss-refused a n why e = ap bufOf (counted (lossJudged (viewOf b) a n) _ why _ (viewOf b) e) ∙ sym (g .whole)
-
-  stop-refused : (code : ℕ) (why : Refusal) → stops (viewOf b) code .answer ≡ NoSizes why → stops (viewOf b) code .buf ≡ b
-  unfolding stops
-  stop-refused code why e =
-      let t : Bool = known (b .error) in
-      let h : t ≡ true = first-of (λ (o : SizesOutcome). o .answer) t _ _ (NoSizes why) (λ q. let z : _≡_ {A = ℕ} 0 1 = cc in omega arith) e in
-      simp h (sym (g .whole))
-
-  shut-refused : (why : Refusal) → shuts (viewOf b) .answer ≡ NoSizes why → shuts (viewOf b) .buf ≡ b
-  unfolding shuts
-  shut-refused why e =
-      let h : b .shutdown ≡ true = first-of (λ (o : SizesOutcome). o .answer) (b .shutdown) _ _ (NoSizes why) (λ q. let z : _≡_ {A = ℕ} 0 1 = cc in omega arith) e in
-      ap (λ (o : SizesOutcome). o .buf) (is-first h _ _) ∙ sym (g .whole)
-
-  limit-refused : (limit : ℕ) (why : Refusal) → raised (viewOf b) limit .answer ≡ Refused why → raised (viewOf b) limit .buf ≡ b
-  unfolding raised
-  limit-refused limit why e =
-      let h : ltb M limit ≡ true = first-of (λ (o : Outcome). o .answer) (ltb M limit) _ _ (Refused why) (λ q. let z : _≡_ {A = ℕ} 0 1 = cc in omega arith) e in
-      simp h (sym (g .whole))
-
-  pub refusal-keeps : Keeps b
-  refusal-keeps = record {
-    write = write-refused;
-    emit = emit-refused;
-    ack = ack-refused;
-    ack-and-drop = drop-refused;
-    retransmit = loss-refused;
-    stop = stop-refused;
-    shutdown = shut-refused;
-    update-max-data = limit-refused;
-  }
+  );
+  emit = λ ar out why e.
+      let h = first-of (λ (o : EmitOutcome). o .answer) (otherArena (viewOf b) (length ar)) _ _ (NoBytes why) (λ q. let z : _≡_ {A = ℕ} 0 1 = cc in omega arith) e in
+      (simp h (sym (g .whole)), simp h);
+  ack = λ a n why e. ap bufOf (plain (ackJudged (viewOf b) a n) why _ (viewOf b) e) ∙ sym (g .whole);
+  ack-and-drop = λ a n why e. ap bufOf (counted (ackJudged (viewOf b) a n) _ why _ (viewOf b) e) ∙ sym (g .whole);
+  retransmit = λ a n why e. ap bufOf (counted (lossJudged (viewOf b) a n) _ why _ (viewOf b) e) ∙ sym (g .whole);
+  stop = λ code why e.
+      let h = first-of (λ (o : SizesOutcome). o .answer) (known (b .error)) _ _ (NoSizes why) (λ q. let z : _≡_ {A = ℕ} 0 1 = cc in omega arith) e in
+      simp h (sym (g .whole));
+  shutdown = λ why e.
+      let h = first-of (λ (o : SizesOutcome). o .answer) (b .shutdown) _ _ (NoSizes why) (λ q. let z : _≡_ {A = ℕ} 0 1 = cc in omega arith) e in
+      ap (λ (o : SizesOutcome). o .buf) (decided h _ _) ∙ sym (g .whole);
+  update-max-data = λ limit why e.
+      let h = first-of (λ (o : Outcome). o .answer) (ltb M limit) _ _ (Refused why) (λ q. let z : _≡_ {A = ℕ} 0 1 = cc in omega arith) e in
+      simp h (sym (g .whole));
+}
 
 -- ---- which places a call writes
 
@@ -226,11 +182,7 @@ length-written s ar input fin =
     (λ _. length-kept ar (s .off) (take (accepted s (length input)) input))
     refl
 
--- an arena that is accepted has the length of the one at creation
-pub right-arena : (s : Send) (a : ℕ) → otherArena s a ≡ false → a ≡ s .room
-right-arena s a e = eqb-true a (s .room) (not-false (eqb a (s .room)) (or-false (eqb a 0) (not (eqb a (s .room))) e .1))
-
--- so the bytes held stay, and an accepted write's follow them
+-- the bytes held stay, and an accepted write's follow them
 module _ (s : Send) (g : GoodSend s) (ar input : List ℕ) (fin : Bool) where
   pub write-held : (q n : ℕ) → base (s .chunks) (s .off) ≤ q → q + n ≤ s .off → held (writtenArena s ar input fin) q n ≡ held ar q n
   unfolding writtenArena
@@ -238,7 +190,7 @@ module _ (s : Send) (g : GoodSend s) (ar input : List ℕ) (fin : Bool) where
       after-elim (λ (x : List ℕ). held x q n ≡ held ar q n) (writeJudged s (length ar) (length input) fin)
       (λ e. let k : ℕ = accepted s (length input) in
       let w = writes s (length ar) (length input) fin e in
-      let r : length ar ≡ s .room = right-arena s (length ar) (w .arena) in
+      let r : length ar ≡ s .room = right-arena (s .room) (length ar) (w .arena) .1 in
       held-before ar (s .off) (take k input) q n l
       (omega (arith, length-take k input, ltb-false (s .room) (k + (s .off - base (s .chunks) (s .off))) (w .room))))
       refl
@@ -249,7 +201,7 @@ module _ (s : Send) (g : GoodSend s) (ar input : List ℕ) (fin : Bool) where
   write-kept e =
       let k : ℕ = accepted s (length input) in
       let w = writes s (length ar) (length input) fin e in
-      let r : length ar ≡ s .room = right-arena s (length ar) (w .arena) in
+      let r : length ar ≡ s .room = right-arena (s .room) (length ar) (w .arena) .1 in
       let n : length (take k input) ≡ k = omega (arith, length-take k input, skip-nothing s g (length input)) in
       let f : length (take k input) ≤ length ar = omega (arith, ltb-false (s .room) (k + (s .off - base (s .chunks) (s .off))) (w .room)) in
       rw e (rw n at (held-kept ar (s .off) (take k input) f))

@@ -7,16 +7,15 @@ use lib.ListN.{length, take, drop, getD, replicate, List·getD-eq-default}
 use lib.Seq.{getD-append-add}
 use Rattle.tables.specs.Lists.{Table, tableOf}
 use Rattle.tables.proofs.Tables as tables
-use Rattle.refusal.specs.Rules.{M}
 use Rattle.range_buf.specs.declared.RangeBuf.{RangeBuf}
 use Rattle.range_buf.specs.State.{Good as GoodChunk}
-use Rattle.range_buf.specs.Rules.{start, end, avail, zeroBuf}
+use Rattle.range_buf.specs.Rules.{end, zeroBuf}
 use Rattle.ranges.specs.declared.RangeSet.{RangeSet}
 use Rattle.ranges.specs.State.{Good as GoodSet, ranges, setOf}
-use Rattle.ranges.proofs.Good.{good-of, ranges-of}
+use Rattle.ranges.proofs.Good.{good-of}
 use Rattle.send_buf.specs.declared.SendBuf.{SendBuf}
 use Rattle.send_buf.proofs.Chunks.{adj-le}
-use Rattle.send_buf.specs.State.{Send, viewOf, bufOf, Good, GoodSend, Adjoin, base}
+use Rattle.send_buf.specs.State.{Send, bufOf, Good, Adjoin, base}
 
 -- a struct whose chunk table and acked set are those of s, with the numbers of s, is the buffer that holds s
 pub made : (s : Send) (d : List RangeBuf) (n : ℕ) (a : RangeSet) → d ≡ tableOf zeroBuf (s .chunks) → n ≡ length (s .chunks) → a ≡ setOf 64 (s .acked)

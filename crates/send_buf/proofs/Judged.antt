@@ -1,11 +1,10 @@
 -- What a call tells by its answer: a success, that each of its refusals' tests failed. Assumes nothing.
 use mathlib.Core.Path.{_≡_, refl}
-use mathlib.Core.Bool.{Bool, true, false, cond, not, _&&_}
+use mathlib.Core.Bool.{Bool, false, cond, not, _&&_}
 use native.Mathlib.Omega.{arith}
 use Prim.Native.Nat.{ℕ, _+_}
 use lib.Dec.{ltb}
 use lib.ListN.{length}
-use Rattle.refusal.specs.declared.Refusal.{Refusal}
 use Rattle.refusal.specs.declared.Answer.{Answer}
 use Rattle.refusal.specs.declared.Answer.the-variants.{Done, Refused}
 use Rattle.refusal.specs.declared.Refusal.the-variants.{FinalSize, NoRoom, TableFull, NeverSent, BadSetup}
@@ -15,16 +14,7 @@ use Rattle.ranges.specs.State.{upto}
 use Rattle.ranges.specs.Rules.{needsRoom}
 use Rattle.send_buf.specs.State.{Send}
 use Rattle.send_buf.specs.Rules.{otherArena, unlessStopped, passesFinal, marked, noRoom, noEntry, writeJudged, neverSent, ackJudged, settled, back, lossJudged}
-use Rattle.refusal.specs.Rules.{after}
-
--- what holds after a success, and of the state as it was, holds of the state after the call
-pub after-elim {ℓ} : {A : Type 0} (P : A → Type ℓ) (said : Answer) {x y : A} → (said ≡ Done → P x) → P y → P (after said x y)
-after-elim P Done f g = f refl
-after-elim P (Refused why) f g = g
-
-not-refused : (t : Bool) (why : Refusal) (x : Answer) → cond t (Refused why) x ≡ Done → (t ≡ false) × (x ≡ Done)
-not-refused true why x e = let z : _≡_ {A = ℕ} 0 1 = cc in absurd (omega arith)
-not-refused false why x e = (refl, e)
+use Rattle.refusal.proofs.Chain.{passes}
 
 not-stopped : (f : OptionU64) (x : Answer) → unlessStopped f x ≡ Done → (f ≡ None) × (x ≡ Done)
 not-stopped None x e = (refl, e)
@@ -43,11 +33,11 @@ writes s a n fin e =
     let x₅ : Answer = cond (noEntry s n) (Refused TableFull) Done in
     let x₄ : Answer = cond (noRoom s n) (Refused NoRoom) x₅ in
     let x₃ : Answer = cond (passesFinal (s .fin) (s .off + n) (marked s n fin)) (Refused FinalSize) x₄ in
-    let e₁ = not-refused (otherArena s a) BadSetup (unlessStopped (s .error) x₃) e in
+    let e₁ = passes (otherArena s a) BadSetup (unlessStopped (s .error) x₃) e in
     let e₂ = not-stopped (s .error) x₃ (e₁ .1) in
-    let e₃ = not-refused (passesFinal (s .fin) (s .off + n) (marked s n fin)) FinalSize x₄ (e₂ .1) in
-    let e₄ = not-refused (noRoom s n) NoRoom x₅ (e₃ .1) in
-    record { arena = e₁ .0; running = e₂ .0; final = e₃ .0; room = e₄ .0; entry = not-refused (noEntry s n) TableFull Done (e₄ .1) .0 }
+    let e₃ = passes (passesFinal (s .fin) (s .off + n) (marked s n fin)) FinalSize x₄ (e₂ .1) in
+    let e₄ = passes (noRoom s n) NoRoom x₅ (e₃ .1) in
+    record { arena = e₁ .0; running = e₂ .0; final = e₃ .0; room = e₄ .0; entry = passes (noEntry s n) TableFull Done (e₄ .1) .0 }
 
 pub record Acks (s : Send) (a n : ℕ) : Type 0 where
   pub was-sent : neverSent s a n ≡ false
@@ -57,8 +47,8 @@ pub acks : (s : Send) (a n : ℕ) → ackJudged s a n ≡ Done → Acks s a n
 unfolding ackJudged
 acks s a n e =
     let x : Answer = cond (needsRoom 64 (upto a (a + n)) (s .acked)) (Refused TableFull) Done in
-    let e₁ = not-refused (neverSent s a n) NeverSent x e in
-    record { was-sent = e₁ .0; room = not-refused (needsRoom 64 (upto a (a + n)) (s .acked)) TableFull Done (e₁ .1) .0 }
+    let e₁ = passes (neverSent s a n) NeverSent x e in
+    record { was-sent = e₁ .0; room = passes (needsRoom 64 (upto a (a + n)) (s .acked)) TableFull Done (e₁ .1) .0 }
 
 pub record Loses (s : Send) (a n : ℕ) : Type 0 where
   pub was-sent : neverSent s a n ≡ false
@@ -68,5 +58,5 @@ pub loses : (s : Send) (a n : ℕ) → lossJudged s a n ≡ Done → Loses s a n
 unfolding lossJudged
 loses s a n e =
     let t : Bool = not (settled s a n) && ltb 64 (length (back (s .chunks) a (a + n))) in
-    let e₁ = not-refused (neverSent s a n) NeverSent (cond t (Refused TableFull) Done) e in
-    record { was-sent = e₁ .0; room = not-refused t TableFull Done (e₁ .1) .0 }
+    let e₁ = passes (neverSent s a n) NeverSent (cond t (Refused TableFull) Done) e in
+    record { was-sent = e₁ .0; room = passes t TableFull Done (e₁ .1) .0 }

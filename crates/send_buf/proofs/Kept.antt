@@ -1,7 +1,6 @@
 -- Every buffer that came from creation or a call is good, whatever the arguments: what a caller needs to make the next call. First of what a
 -- buffer holds, call by call; then of the buffer in the result of each contract. Assumes nothing.
 use mathlib.Core.Path.{_≡_, refl, sym, ap, subst}
-use mathlib.Core.Logic.{inl}
 use mathlib.Core.Bool.{Bool, true, false, not, _&&_, _||_}
 use mathlib.Core.List.{List, _++_}
 use Prim.Native.Nat.{ℕ, _+_, _-_, _≤_, max}
@@ -13,6 +12,7 @@ use Rattle.refusal.specs.Rules.{M, known, finWith}
 use Rattle.refusal.specs.declared.Answer.the-variants.{Done}
 use Rattle.refusal.specs.declared.OptionU64.{OptionU64}
 use Rattle.refusal.specs.declared.OptionU64.the-variants.{None, Some}
+use Rattle.refusal.proofs.Answers.{after-elim}
 use Rattle.range_buf.specs.declared.RangeBuf.{RangeBuf}
 use Rattle.ranges.specs.declared.Range.{Range}
 use Rattle.ranges.specs.State.{upto, Sorted}
@@ -26,8 +26,8 @@ use Rattle.send_buf.proofs.Chunks.{advancedFrom, adj-base, adj-append, 
 use Rattle.send_buf.proofs.Position.{spent-weak, used-weak, spent-append, used-append, used-cut, spent-first, spent-sent, used-sent, spent-behind, used-behind, base-behind, used-back, spent-back}
 use Rattle.send_buf.proofs.Acked.{upto-weak, upto-placed, placed-sorted, placed-few}
 use Rattle.send_buf.proofs.Views.{good-of}
-use Rattle.send_buf.proofs.Judged.{after-elim, Writes, writes, Acks, acks as acks-told, loses}
-use Rattle.send_buf.proofs.Facts.{acked-emitted, ack-emitted, front-emitted, reset-single, reached, skip-nothing}
+use Rattle.send_buf.proofs.Judged.{Writes, writes, Acks, acks as acks-told, loses}
+use Rattle.send_buf.proofs.Facts.{ack-emitted, front-emitted, reset-single, reached, skip-nothing}
 use Rattle.tables.proofs.Tests.{and-true, and-false, or-false, either}
 
 -- ---- creation
@@ -44,7 +44,7 @@ new-good A limit a l = record {
   fin-off = λ f e. let z : _≡_ {A = ℕ} 0 1 = cc in absurd (omega arith);
   acked-order = tt;
   acked-few = omega arith;
-  acked-in = inl tt;
+  acked-in = tt;
   pos-in = omega arith;
   spent = tt;
   used = tt;
@@ -74,7 +74,7 @@ fin-is (Some f) off n false b h x e =
     absurd (eqb-false (off + n) f r (omega (arith, ltb-false f (off + n) (p .0))))
 
 -- the chunks that k bytes are cut into adjoin those held
-laid : (s : Send) → GoodSend s → (k : ℕ) → Adjoin (base (s .chunks) (s .off)) (s .chunks ++ cut (pieces k) (s .off) k) (s .off + k)
+pub laid : (s : Send) → GoodSend s → (k : ℕ) → Adjoin (base (s .chunks) (s .off)) (s .chunks ++ cut (pieces k) (s .off) k) (s .off + k)
 laid s g k =
     adj-append (base (s .chunks) (s .off)) (s .chunks) (s .off) (cut (pieces k) (s .off) k) (s .off + k) (g .adjoin)
     (adj-cut (pieces k) (s .off) k (omega arith) (omega arith))
@@ -94,7 +94,7 @@ wrote-good s g a n fin e = record {
       omega (arith, p .1, accepted-whole s g n fin (p .0));
   acked-order = g .acked-order;
   acked-few = g .acked-few;
-  acked-in = inl (acked-emitted s g);
+  acked-in = g .acked-in;
   pos-in = omega (arith, length-append (s .chunks) new, g .pos-in);
   spent = spent-append (s .pos) (s .chunks) new (g .pos-in) (g .spent);
   used = used-append (s .emitted) (s .chunks) new (g .used) (used-cut (s .emitted) (pieces k) (s .off) k);
@@ -132,7 +132,7 @@ sent-good s g n = record {
   fin-off = g .fin-off;
   acked-order = g .acked-order;
   acked-few = g .acked-few;
-  acked-in = inl (upto-weak (s .emitted) top (s .acked) (omega arith) (acked-emitted s g));
+  acked-in = upto-weak (s .emitted) top (s .acked) (omega arith) (g .acked-in);
   pos-in =
       cond-elim (λ (x : ℕ). x ≤ length cs) (eqb (emitCount s n) 0) (λ _. omega (arith, l, g .pos-in))
       (λ _. omega (arith, l, g .pos-in, skipped-le (drop (s .pos) (s .chunks)), length-drop (s .pos) (s .chunks), finished-le (drop i (s .chunks)) (front s) n, length-drop i (s .chunks)));
@@ -183,7 +183,7 @@ acked-good s g a n e = record {
   fin-off = g .fin-off;
   acked-order = placed-sorted x (s .acked) (omega arith) (g .acked-order) (g .acked-few) (w .room);
   acked-few = placed-few x (s .acked) (omega arith) (g .acked-order) (g .acked-few) (w .room);
-  acked-in = inl (upto-placed (s .emitted) x (s .acked) (ltb-false (s .emitted) (a + n) (w .was-sent)) (acked-emitted s g));
+  acked-in = upto-placed (s .emitted) x (s .acked) (ltb-false (s .emitted) (a + n) (w .was-sent)) (g .acked-in);
   pos-in = g .pos-in;
   spent = g .spent;
   used = g .used;
@@ -209,7 +209,7 @@ dropped-good s g k low = record {
   fin-off = g .fin-off;
   acked-order = g .acked-order;
   acked-few = g .acked-few;
-  acked-in = inl (acked-emitted s g);
+  acked-in = g .acked-in;
   pos-in = omega (arith, g .pos-in, l);
   spent = spent-behind (s .pos) (s .chunks) k (g .spent);
   used = used-behind (s .emitted) (s .chunks) k (g .used);
@@ -242,7 +242,7 @@ moved-good s g a e t = record {
   fin-off = g .fin-off;
   acked-order = g .acked-order;
   acked-few = g .acked-few;
-  acked-in = inl (acked-emitted s g);
+  acked-in = g .acked-in;
   pos-in = omega (arith, g .pos-in, length-back (s .chunks) a e, backPos-le (s .chunks) 0 (s .pos) a e);
   spent =
       spent-weak (p - 0) p (back (s .chunks) a e) (omega arith)
@@ -290,7 +290,7 @@ reset-good s g = record {
   fin-off = λ f e. sym cc;
   acked-order = subst (Sorted 0) (sym (reset-single s g)) (omega arith, omega arith, tt);
   acked-few = omega (arith, ap length (reset-single s g));
-  acked-in = inl (subst (Upto (s .emitted)) (sym (reset-single s g)) (omega (arith, front-emitted s g), tt));
+  acked-in = subst (Upto (s .emitted)) (sym (reset-single s g)) (omega (arith, front-emitted s g), tt);
   pos-in = omega arith;
   spent = tt;
   used = tt;

@@ -181,9 +181,6 @@ module _ (x : Lost) (l : List RangeBuf) where
       ap (λ (m : ℕ). getD (relisted x l) m zeroBuf) m ∙ relist-high (suc (suc (i - x .at - 2))) e h
       ∙ getD-drop (suc (x .at)) l (i - x .at - 2) zeroBuf ∙ ap (λ (m : ℕ). getD l m zeroBuf) (omega arith)
 
-  pub length-plain : x .split ≡ false → length (relisted x l) ≡ length l
-  length-plain e = ap (λ (t : Bool). length (cond t (movedFirst (x .at) (x .from) (take (x .at) l) ++ x .left ∷ x .right ∷ drop (suc (x .at)) l) (movedFirst (x .at) (x .from) l))) e ∙ length-moved (x .at) (x .from) l
-
   pub length-split : x .split ≡ true → x .at < length l → length (relisted x l) ≡ length l + 1
   length-split e h =
       ap (λ (t : Bool). length (cond t (movedFirst (x .at) (x .from) (take (x .at) l) ++ x .left ∷ x .right ∷ drop (suc (x .at)) l) (movedFirst (x .at) (x .from) l))) e

@@ -17,12 +17,9 @@ use lib.ListN.{length, take, drop}
 use Rattle.refusal.specs.Rules.{M, withCount, after, known, isAt, finWith}
 use Rattle.refusal.specs.declared.Answer.{Answer}
 use Rattle.refusal.specs.declared.Answer.the-variants.{Done, Refused}
-use Rattle.refusal.specs.declared.EmitAnswer.{EmitAnswer}
 use Rattle.refusal.specs.declared.EmitAnswer.the-variants.{Emitted, Refused as NoBytes}
-use Rattle.refusal.specs.declared.SizesAnswer.{SizesAnswer}
 use Rattle.refusal.specs.declared.SizesAnswer.the-variants.{Sizes, Refused as NoSizes}
 use Rattle.refusal.specs.declared.CountAnswer.{CountAnswer}
-use Rattle.refusal.specs.declared.CountAnswer.the-variants.{Count, Refused as NoCount}
 use Rattle.refusal.specs.declared.Refusal.the-variants.{Offset, Stopped, FinalSize, NoRoom, TableFull, NeverSent, Done as NothingMore, BadSetup}
 use Rattle.refusal.specs.declared.OptionU64.{OptionU64}
 use Rattle.refusal.specs.declared.OptionU64.the-variants.{None, Some}

@@ -1,6 +1,5 @@
 -- A send buffer as numbers and lists, the struct that holds them, and what every buffer is that came from creation or a call.
 use mathlib.Core.Path.{_≡_}
-use mathlib.Core.Logic.{_⊎_}
 use mathlib.Core.Bool.{Bool}
 use mathlib.Core.List.{List, [], _∷_}
 use Prim.Native.Nat.{ℕ, _+_, _-_, _≤_, _<_}
@@ -94,10 +93,6 @@ abbrev pub Upto : ℕ → List Range → Type 0
 Upto h [] = Unit {0}
 Upto h (r ∷ rs) = (r .end ≤ h) × Upto h rs
 
--- what is acked was emitted; or, after a reset, lies below the final size, and no chunk is left
-abbrev pub AckedIn : Send → Type 0
-AckedIn s = Upto (s .emitted) (s .acked) ⊎ ((s .chunks ≡ []) × (s .fin ≡ Some (s .off)) × Upto (s .off) (s .acked))
-
 -- what holds of the numbers and lists
 pub record GoodSend (s : Send) : Type 0 where
   pub room-in : s .room ≤ 65536
@@ -111,10 +106,10 @@ pub record GoodSend (s : Send) : Type 0 where
   pub limit-in : s .limit ≤ M
   -- F known implies off = F
   pub fin-off : (f : ℕ) → s .fin ≡ Some f → f ≡ s .off
-  -- the acked ranges: sorted, apart, at most 64
+  -- the acked ranges: sorted, apart, at most 64, of bytes that were emitted
   pub acked-order : Sorted 0 (s .acked)
   pub acked-few : length (s .acked) ≤ 64
-  pub acked-in : AckedIn s
+  pub acked-in : Upto (s .emitted) (s .acked)
   -- the chunks before the send position hold no bytes left to send; what is consumed was emitted, and so was all before the first chunk
   pub pos-in : s .pos ≤ length (s .chunks)
   pub spent : Spent (s .pos) (s .chunks)

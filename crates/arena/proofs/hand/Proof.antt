@@ -4,9 +4,9 @@ use native.Mathlib.Omega.{arith}
 use borrow.Author.Needs.{needs}
 use Prim.Native.Nat.{ℕ, _+_, _-_, _%_, _≤_, _<_}
 use native.Mathlib.Nat.{add-zero, add-assoc}
-use lib.ListN.{length, take, length-set, set, getD}
+use lib.ListN.{length, take, length-set, getD}
 use lib.Seq.{take-all}
-use Rattle.arena.specs.Rules.{held, handed}
+use Rattle.arena.specs.Rules.{held}
 use Rattle.arena.proofs.Laws.{held-none, handed-held}
 use Rattle.arena.proofs.Places.{follows}
 use Rattle.arena.proofs.Loops.{hand-turn, no-places-hand}

@@ -2,12 +2,10 @@
 use mathlib.Core.Path.{_≡_, refl, sym, ap, _∙_}
 use native.Mathlib.Omega.{arith}
 use borrow.Author.Needs.{needs}
-use mathlib.Core.List.{[]}
 use Prim.Native.Nat.{ℕ, _+_, _-_, _%_, _≤_, _<_}
 use native.Mathlib.Nat.{add-zero, add-assoc}
-use lib.ListN.{length, drop, length-set, set, getD}
+use lib.ListN.{length, drop, length-set, getD}
 use Rattle.arena.specs.Rules.{kept}
-use Rattle.arena.proofs.Laws.{length-kept}
 use Rattle.arena.proofs.Places.{follows}
 use Rattle.arena.proofs.Loops.{keep-turn, keep-end, no-places-keep}
 use Rattle.arena.proofs.keep.Statement.{statement}

@@ -7,7 +7,7 @@ use lib.ListN.{length, take}
 use Rattle.refusal.specs.Rules.{M}
 use Rattle.range_buf.specs.Rules.{start, avail}
 use Rattle.arena.specs.Rules.{handed}
-use Rattle.recv_buf.proofs.Copying.{filled-front}
+use Rattle.arena.proofs.Parts.{filled-front}
 use Rattle.recv_buf.proofs.drain.Statement.{statement}
 use Rattle.recv_buf.proofs.drain.Tie as tie
 

@@ -1,5 +1,5 @@
 -- `RangeBuf::from` meets its contract. Assumes nothing.
-use mathlib.Core.Path.{_≡_, sym, _∙_}
+use mathlib.Core.Path.{sym, _∙_}
 use borrow.Author.Needs.{needs}
 use Rattle.range_buf.proofs.RangeBuf.from.Statement.{statement}
 use Rattle.range_buf.proofs.RangeBuf.from.Tie as tie

@@ -1,11 +1,11 @@
+-- `RangeSet::contains` meets its contract. The invariant: the number is in the set exactly if it is in the ranges from i on. Assumes nothing.
 use Prim.Native.Nat.{_≤_, _-_}
-use native.Mathlib.Omega.{arith}
-use mathlib.Core.Path.{_≡_, refl, sym, _∙_}
+use mathlib.Core.Path.{_≡_}
 use mathlib.Core.Logic.{⊎-elim}
 use borrow.Author.Needs.{needs}
 use borrow.Author.Tests.{le-leb, lt-leb, lt-ltb, le-ltb}
 use lib.ListN.{drop}
-use Rattle.ranges.specs.State.{ranges, zeroRange}
+use Rattle.ranges.specs.State.{ranges}
 use Rattle.ranges.specs.Rules.{memberOf}
 use Rattle.ranges.proofs.Good.{next, done}
 use Rattle.ranges.proofs.RangeSet.contains.Statement.{statement}

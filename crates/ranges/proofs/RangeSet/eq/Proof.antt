@@ -1,6 +1,5 @@
 -- `RangeSet::eq` meets its contract. Assumes nothing.
-use mathlib.Core.Path.{_≡_, refl, sym, ap, _∙_}
-use native.Mathlib.Omega.{arith}
+use mathlib.Core.Path.{sym, _∙_}
 use borrow.Author.Tests.{eq-eqb, ne-eqb}
 use Rattle.ranges.specs.State.{ranges}
 use Rattle.ranges.proofs.Good.{ranges-length}

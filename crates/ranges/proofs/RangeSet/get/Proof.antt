@@ -1,5 +1,4 @@
 -- `RangeSet::get` meets its contract. Assumes nothing.
-use mathlib.Core.Path.{_≡_, refl, sym, ap, _∙_}
 use borrow.Author.Tests.{lt-ltb, le-ltb}
 use Rattle.ranges.proofs.Good.{entry, ranges-length}
 use borrow.Author.Needs.{needs}

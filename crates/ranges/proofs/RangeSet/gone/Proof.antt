@@ -1,10 +1,11 @@
-use Prim.Native.Nat.{ℕ, suc, _+_, _≤_, _-_, _<_}
+-- `RangeSet::gone` meets its contract. The invariant: i ranges have no number above v, and the others are counted from i on. Assumes nothing.
+use Prim.Native.Nat.{suc, _+_, _≤_, _-_, _<_}
 use native.Mathlib.Omega.{arith}
-use mathlib.Core.Path.{_≡_, refl, sym, ap, _∙_}
+use mathlib.Core.Path.{_≡_, ap}
 use mathlib.Core.Logic.{⊎-elim}
 use borrow.Author.Needs.{needs}
-use borrow.Author.Tests.{le-leb, lt-leb, lt-ltb, le-ltb}
-use lib.ListN.{drop, length, getD}
+use borrow.Author.Tests.{le-leb, lt-leb}
+use lib.ListN.{drop, getD}
 use Rattle.ranges.specs.State.{ranges, zeroRange}
 use Rattle.ranges.specs.Steps.{goneCount}
 use Rattle.ranges.proofs.Good.{next, done}

@@ -1,10 +1,7 @@
 -- `RangeSet::insert` meets its contract. Assumes nothing.
-use mathlib.Core.Path.{_≡_, refl, sym, ap, _∙_}
 use mathlib.Core.Logic.{_⊎_, inl, inr, ⊎-elim}
-use Prim.Native.Nat.{_<_, _≤_}
 use borrow.Author.Tests.{lt-ltb, le-ltb}
-use Rattle.ranges.specs.declared.RangeSet.{RangeSet}
-use Rattle.ranges.specs.State.{Good, ranges, setOf}
+use Rattle.ranges.specs.State.{Good}
 use Rattle.ranges.proofs.Good.{good-drop}
 use Rattle.ranges.proofs.Insert.{at-spot, is-full, has-room, splice-fits, rest-room, rest-placed}
 use borrow.Author.Needs.{needs}

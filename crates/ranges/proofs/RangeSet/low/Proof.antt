@@ -1,10 +1,10 @@
-use Prim.Native.Nat.{ℕ, suc, _+_, _≤_, _-_, _<_}
+-- `RangeSet::low` meets its contract. The invariant: i ranges end below x, and the others are counted from i on. Assumes nothing.
+use Prim.Native.Nat.{suc, _+_, _≤_, _-_}
 use native.Mathlib.Omega.{arith}
-use mathlib.Core.Path.{_≡_, refl, sym, ap, _∙_}
-use mathlib.Core.Logic.{⊎-elim}
+use mathlib.Core.Path.{_≡_, ap}
 use borrow.Author.Needs.{needs}
-use borrow.Author.Tests.{le-leb, lt-leb, lt-ltb, le-ltb}
-use lib.ListN.{drop, length}
+use borrow.Author.Tests.{lt-ltb, le-ltb}
+use lib.ListN.{drop}
 use Rattle.ranges.specs.State.{ranges}
 use Rattle.ranges.specs.Steps.{lowCount}
 use Rattle.ranges.proofs.Good.{next, done}

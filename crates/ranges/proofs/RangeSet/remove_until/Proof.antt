@@ -1,11 +1,11 @@
-use Prim.Native.Nat.{ℕ, suc, _+_, _≤_, _-_, _<_}
+-- `RangeSet::remove_until` meets its contract. Assumes nothing.
+use Prim.Native.Nat.{_+_, _-_, _<_}
 use native.Mathlib.Omega.{arith}
-use mathlib.Core.Path.{_≡_, refl, sym, ap, _∙_}
+use mathlib.Core.Path.{_≡_, sym, ap, _∙_}
 use mathlib.Core.Bool.{false}
 use mathlib.Core.List.{_∷_}
 use borrow.Author.Tests.{lt-ltb, le-ltb}
 use lib.ListN.{drop, length, getD}
-use Rattle.ranges.specs.declared.Range.{Range}
 use Rattle.ranges.specs.State.{ranges, setOf, zeroRange, upto}
 use Rattle.ranges.specs.Steps.{goes, goneCount}
 use Rattle.ranges.proofs.Good.{next, done, entry, ranges-length}

@@ -1,11 +1,11 @@
-use Prim.Native.Nat.{ℕ, suc, _+_, _≤_, _-_, _<_}
+-- `RangeSet::splice` meets its contract. The invariant: the first i places of the new table are filled. Assumes nothing.
+use Prim.Native.Nat.{ℕ, _≤_, _-_, _<_}
 use native.Mathlib.Omega.{arith}
-use mathlib.Core.Path.{_≡_, refl, sym, ap, _∙_}
-use mathlib.Core.Logic.{⊎-elim}
+use mathlib.Core.Path.{_≡_, ap}
 use borrow.Author.Needs.{needs}
 use borrow.Author.Count.{below-none}
-use lib.ListN.{drop, length, getD, length-set}
-use Rattle.ranges.specs.State.{ranges, zeroRange, setOf}
+use lib.ListN.{length, getD, length-set}
+use Rattle.ranges.specs.State.{ranges, zeroRange}
 use Rattle.tables.specs.Lists.{spliceAt}
 use Rattle.tables.proofs.Tables.{filled-more, splice-length}
 use Rattle.ranges.proofs.Good.{made, inner-length, ranges-length}

@@ -1,8 +1,8 @@
-use Prim.Native.Nat.{ℕ, suc, _+_, _≤_, _-_, _<_}
+-- `RangeSet::spliced` meets its contract. Assumes nothing.
+use Prim.Native.Nat.{_+_, _≤_, _-_}
 use native.Mathlib.Omega.{arith}
-use mathlib.Core.Path.{_≡_, refl, sym, ap, _∙_}
-use mathlib.Core.Logic.{⊎-elim}
-use lib.ListN.{drop, length, getD, List·getD-eq-default}
+use mathlib.Core.Path.{sym, _∙_}
+use lib.ListN.{length, List·getD-eq-default}
 use Rattle.ranges.specs.State.{ranges, zeroRange}
 use Rattle.tables.proofs.Tables.{splice-low, splice-at, splice-high}
 use Rattle.ranges.proofs.Good.{entry, ranges-length}

@@ -1,6 +1,7 @@
-use Prim.Native.Nat.{ℕ, suc, _+_, _≤_, _-_, _<_}
+-- `RangeSet::spot` meets its contract. Assumes nothing.
+use Prim.Native.Nat.{ℕ, _-_}
 use native.Mathlib.Omega.{arith}
-use mathlib.Core.Path.{_≡_, refl, sym, ap, _∙_}
+use mathlib.Core.Path.{ap, _∙_}
 use Rattle.ranges.specs.State.{ranges}
 use Rattle.ranges.specs.Rules.{endsBelow}
 use Rattle.ranges.specs.Steps.{joinFrom}

@@ -1,10 +1,6 @@
 -- `RangeSet::try_insert` meets its contract. Assumes nothing.
-use mathlib.Core.Path.{_≡_, refl, sym, ap, _∙_}
 use mathlib.Core.Logic.{_⊎_, inl, inr, ⊎-elim}
-use Prim.Native.Nat.{_<_, _≤_}
 use borrow.Author.Tests.{lt-ltb, le-ltb}
-use Rattle.ranges.specs.declared.RangeSet.{RangeSet}
-use Rattle.ranges.specs.State.{Good, ranges, setOf}
 use Rattle.ranges.proofs.Insert.{at-spot, is-full, has-room, splice-fits}
 use borrow.Author.Needs.{needs}
 use Rattle.ranges.proofs.RangeSet.try_insert.Statement.{statement}

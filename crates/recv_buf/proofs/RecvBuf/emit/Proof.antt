@@ -6,7 +6,8 @@ use lib.ListN.{length}
 use Rattle.refusal.specs.Rules.{M}
 use Rattle.recv_buf.specs.State.{viewOf}
 use Rattle.recv_buf.specs.Rules.{otherArena, taken}
-use Rattle.recv_buf.proofs.TakingOut.{emit-bad, emit-same, emit-refused, emit-count, emit-done, emit-places}
+use Rattle.recv_buf.proofs.TakingOut.{emit-bad, emit-same, emit-refused, emit-count, emit-done}
+use Rattle.arena.proofs.Places.{right-arena}
 use Rattle.recv_buf.proofs.RecvBuf.emit.Statement.{statement}
 use Rattle.recv_buf.proofs.RecvBuf.emit.Tie as tie
 
@@ -46,7 +47,7 @@ copy-out-requires c κs =
     let t = c .before .before .answer .given in (
       a .pre,
       (
-        emit-places (a .args .self) (a .pre) (a .args .arena .now) (a .args .out .now) ok (d .discard .result) (d .discard .ensures),
+        right-arena (a .args .self .«arena_len») (length (a .args .arena .now)) ok .0,
         emit-count (a .args .self) (a .pre) (a .args .arena .now) (a .args .out .now) ok (d .discard .result) (d .discard .ensures) (t .0 .0) (t .0 .1 .0) (t .1),
       ),
     )

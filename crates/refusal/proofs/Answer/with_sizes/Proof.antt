@@ -1,5 +1,5 @@
 -- `Answer::with_sizes` meets its contract. Assumes nothing.
-use mathlib.Core.Path.{_≡_, sym, ap}
+use mathlib.Core.Path.{sym, ap}
 use Rattle.refusal.specs.declared.Answer.{Answer}
 use Rattle.refusal.specs.Rules.{withSizes}
 use borrow.Author.Needs.{needs}

@@ -1,5 +1,5 @@
 -- `OptionU64::is_at` meets its contract. Assumes nothing.
-use mathlib.Core.Path.{_≡_, sym, ap}
+use mathlib.Core.Path.{sym, ap}
 use Rattle.refusal.specs.declared.OptionU64.{OptionU64}
 use Rattle.refusal.specs.Rules.{isAt}
 use borrow.Author.Needs.{needs}

@@ -1,5 +1,5 @@
 -- `Refusal::code` meets its contract. Assumes nothing.
-use mathlib.Core.Path.{_≡_, sym, ap}
+use mathlib.Core.Path.{sym, ap}
 use Rattle.refusal.specs.Rules.{codeOf}
 use borrow.Author.Needs.{needs}
 use Rattle.refusal.proofs.Refusal.code.Statement.{statement}

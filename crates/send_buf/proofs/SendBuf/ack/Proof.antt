@@ -14,7 +14,6 @@ use borrow.Author.Tests.{ltb-false}
 use mathlib.Core.Path.{_∙_, _≡_, ap, sym}
 use native.Mathlib.Omega.{arith}
 use Rattle.refusal.specs.declared.Refusal.the-variants.{NeverSent, TableFull}
-use Rattle.ranges.specs.declared.Outcome.{Outcome as SetOutcome}
 use Rattle.ranges.specs.declared.RangeSet.{RangeSet}
 use Rattle.send_buf.proofs.SendBuf.ack.Statement.{statement}
 use Rattle.send_buf.proofs.SendBuf.ack.Tie as tie

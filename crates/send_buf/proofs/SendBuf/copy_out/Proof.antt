@@ -3,7 +3,8 @@ use Prim.Native.Nat.{_+_, _-_, _<_, _≤_}
 use Rattle.range_buf.specs.Rules.{avail, start, zeroBuf}
 use Rattle.refusal.specs.Rules.{M}
 use Rattle.send_buf.proofs.Acking.{refused}
-use Rattle.send_buf.proofs.Emitting.{Emitting, ate, emit-starts, ends-apart, ends-behind, ends-full, entry-good, full, part, used-good}
+use Rattle.send_buf.proofs.Emitting.{Emitting, ate, emit-starts, ends-apart, ends-behind, ends-full, entry-good, full, part}
+use Rattle.range_buf.proofs.Kept.{used-good}
 use Rattle.send_buf.proofs.Good.{done, next}
 use Rattle.send_buf.specs.Rules.{front}
 use Rattle.send_buf.specs.State.{viewOf}
@@ -110,7 +111,7 @@ len-requires c κs =
     let o = c .before .before .before .consume in
     let d = c .before .before .before .before .before .before .drain in
     rw (ate (getD (v .next .«data») (v .i) zeroBuf) (d .result) (o .result) (d .ensures .0 .2) (o .ensures) .1)
-    (used-good (getD (v .next .«data») (v .i) zeroBuf) (d .result) (entry-good (s .args .arena .now) (s .args .out .now) b (s .pre .0) (v .out) (v .next) (v .i) (v .done) (v .inv) (c .before .before .before .before .before .before .before .before .before .before .before .loop-test .taken)) (d .ensures .0 .2))
+    (used-good (getD (v .next .«data») (v .i) zeroBuf) (d .result) (d .ensures .0 .2) (entry-good (s .args .arena .now) (s .args .out .now) b (s .pre .0) (v .out) (v .next) (v .i) (v .done) (v .inv) (c .before .before .before .before .before .before .before .before .before .before .before .loop-test .taken)))
 
 add-i : tie.Need-add-i Inv-loop μ-loop
 add-i c = search needs
@@ -131,7 +132,7 @@ loop-again c =
     rw (← s .pre .1 .0) (sym (c .before .before .before .before .before .before .before .before .before .before .before .goes-on .ensures) ∙ not-false (c .before .before .before .before .before .before .before .before .before .before .before .goes-on .result) (c .before .before .before .before .before .before .before .before .before .before .if1 .left)) in
     let a = ate (getD (v .next .«data») (v .i) zeroBuf) (d .result) (o .result) (d .ensures .0 .2) (o .ensures) .1 in
     let h : avail (o .result .buf) ≤ 0 = omega (arith, c .if2 .left, c .before .len .ensures) in
-    rw a (full (s .args .arena .now) (s .args .out .now) b (s .pre .0) (v .out) (v .next) (v .i) (v .done) (v .inv) low (d .result) (d .last .1 .1 .0) on (d .ensures .0 .0) (d .ensures .1) (rw a at h))
+    full (s .args .arena .now) (s .args .out .now) b (s .pre .0) (v .out) (v .next) (v .i) (v .done) (v .inv) low (d .result) (d .last .1 .1 .0) on (d .ensures .0 .0) (d .ensures .1) (o .result .buf) a h
 
 same-length-2 : tie.Need-same-length-2 Inv-loop μ-loop
 same-length-2 c = search needs
@@ -173,8 +174,8 @@ returns-4 c =
     rw (← s .pre .1 .0) (sym (c .before .before .before .before .before .before .before .before .before .before .before .goes-on .ensures) ∙ not-false (c .before .before .before .before .before .before .before .before .before .before .before .goes-on .result) (c .before .before .before .before .before .before .before .before .before .before .if1 .left)) in
     let a = ate (getD (v .next .«data») (v .i) zeroBuf) (d .result) (o .result) (d .ensures .0 .2) (o .ensures) .1 in
     let h : 0 < avail (o .result .buf) = omega (arith, c .if2 .taken, c .before .len .ensures) in
-    let p = part (s .args .arena .now) (s .args .out .now) b (s .pre .0) (v .out) (v .next) (v .i) (v .done) (v .inv) low (d .result) (d .last .1 .1 .0) on (d .ensures .0 .0) (d .ensures .1) (rw a at h) in
-    rw a (ends-full (s .args .arena .now) (s .args .out .now) b (s .pre .0) _ _ (v .i + 1) (v .i) (v .done + d .result) (p .0) (p .1))
+    let p = part (s .args .arena .now) (s .args .out .now) b (s .pre .0) (v .out) (v .next) (v .i) (v .done) (v .inv) low (d .result) (d .last .1 .1 .0) on (d .ensures .0 .0) (d .ensures .1) (o .result .buf) a h in
+    ends-full (s .args .arena .now) (s .args .out .now) b (s .pre .0) _ _ (v .i + 1) (v .i) (v .done + d .result) (p .0) (p .1)
 
 pub copy-out-spec : {M : Type 1} → statement M
 copy-out-spec =

@@ -1,6 +1,7 @@
 -- `SendBuf::emit` meets its contract. Assumes nothing.
 use Rattle.refusal.specs.Rules.{M}
-use Rattle.send_buf.proofs.Emitting.{arena-some, counts-on, emits, emits-bad, gives, not-count, sent-in}
+use Rattle.send_buf.proofs.Emitting.{counts-on, emits, emits-bad, gives, not-count, sent-in}
+use Rattle.arena.proofs.Places.{right-arena}
 use Rattle.send_buf.specs.Rules.{emitCount}
 use Rattle.send_buf.specs.State.{viewOf}
 use borrow.Author.Needs.{needs}
@@ -27,7 +28,7 @@ off-front-requires c κs = search needs
 copy-out-requires : tie.Need-copy-out-requires
 copy-out-requires c κs =
     let s = c .before .before .before .before .before .before in
-    (s .pre, (c .before .off-front .ensures, arena-some (viewOf (s .args .self)) (s .args .arena .now) (s .args .out .now) (sym (c .before .before .before .other-arena .ensures) ∙ c .before .before .if1 .left)))
+    (s .pre, (c .before .off-front .ensures, right-arena (s .args .self .«arena_len») (length (s .args .arena .now)) (sym (c .before .before .before .other-arena .ensures) ∙ c .before .before .if1 .left) .0))
 
 enum-known-said : tie.Need-enum-known-said
 enum-known-said c = search needs

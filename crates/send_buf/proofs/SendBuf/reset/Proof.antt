@@ -11,7 +11,6 @@ use Rattle.send_buf.specs.State.{viewOf}
 use borrow.Author.Needs.{needs}
 use mathlib.Core.Path.{_∙_, _≡_, ap, sym}
 use native.Mathlib.Omega.{arith}
-use Rattle.ranges.specs.declared.Outcome.{Outcome as SetOutcome}
 use Rattle.ranges.specs.declared.RangeSet.{RangeSet}
 use Rattle.send_buf.proofs.SendBuf.reset.Statement.{statement}
 use Rattle.send_buf.proofs.SendBuf.reset.Tie as tie
