@@ -8,8 +8,8 @@ use range_buf::RangeBuf;
 use range_buf::SplitAnswer;
 use refusal::Answer;
 
-// The chunk after a call, and the length of the text put together for it (0: not understood). `made` says of a call whether it created the chunk,
-// and of a turn whether there is one.
+// The chunk after a call, and the length of the text put together for it (0: not understood). `made` says of a call whether it
+// created the chunk, and of a turn whether there is one.
 pub struct Step {
     pub buf: RangeBuf,
     pub at: usize,

@@ -10,8 +10,8 @@ use recv_buf::RecvBuf;
 use refusal::Answer;
 use refusal::OptionU64;
 
-// The buffer after a call, and the length of the text put together for it (0: not understood). `made` says of a call whether it created the buffer,
-// and of a turn whether there is one.
+// The buffer after a call, and the length of the text put together for it (0: not understood). `made` says of a call whether it
+// created the buffer, and of a turn whether there is one.
 pub struct Step {
     pub buf: RecvBuf,
     pub at: usize,

@@ -8,8 +8,8 @@ use refusal::CountAnswer;
 use refusal::OptionU64;
 use send_buf::SendBuf;
 
-// The buffer after a call, and the length of the text put together for it (0: not understood). `made` says of a call whether it created the buffer,
-// and of a turn whether there is one.
+// The buffer after a call, and the length of the text put together for it (0: not understood). `made` says of a call whether it
+// created the buffer, and of a turn whether there is one.
 pub struct Step {
     pub buf: SendBuf,
     pub at: usize,

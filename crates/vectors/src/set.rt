@@ -8,8 +8,8 @@ use ranges::Range;
 use ranges::RangeSet;
 use refusal::Answer;
 
-// The set after a call, and the length of the text put together for it (0: not understood). `made` says of a call whether it created the set,
-// and of a turn whether there is one.
+// The set after a call, and the length of the text put together for it (0: not understood). `made` says of a call whether it
+// created the set, and of a turn whether there is one.
 pub struct Step {
     pub set: RangeSet,
     pub at: usize,

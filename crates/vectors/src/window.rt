@@ -7,8 +7,8 @@ use flowcontrol::FlowControl;
 use refusal::Answer;
 use refusal::OptionU64;
 
-// The window after a call, and the length of the text put together for it (0: not understood). `made` says of a call whether it created the window,
-// and of a turn whether there is one.
+// The window after a call, and the length of the text put together for it (0: not understood). `made` says of a call whether it
+// created the window, and of a turn whether there is one.
 pub struct Step {
     pub flow: FlowControl,
     pub at: usize,
