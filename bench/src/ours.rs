@@ -12,6 +12,7 @@ use raw::RangeSetState;
 use raw::RecvBufState;
 use raw::SendBufState;
 use std::hint::black_box;
+use std::ops::Range;
 
 pub fn run_of(work: &str) -> Option<Run> {
     Some(match work {
@@ -102,38 +103,23 @@ fn read(r: &mut RecvBufState, arena: &[u8], out: &mut [u8]) {
     }
 }
 
-fn in_order(room: &mut Room) {
-    let mut r = recv_buf(&room.recv_arena);
-    for p in &room.pieces {
-        step(
-            raw::recv_buf_write(
-                r,
-                &mut room.recv_arena,
-                p.start as u64,
-                &room.input[p.clone()],
-                p.end == TOTAL,
-            ),
-            &mut r,
-        );
+fn received(frames: &[Range<usize>], input: &[u8], arena: &mut [u8]) -> RecvBufState {
+    let mut r = recv_buf(arena);
+    for p in frames {
+        let (off, end) = (p.start as u64, p.end == TOTAL);
+        step(raw::recv_buf_write(r, arena, off, &input[p.clone()], end), &mut r);
     }
+    r
+}
+
+fn in_order(room: &mut Room) {
+    let mut r = received(&room.pieces, &room.input, &mut room.recv_arena);
     read(&mut r, &room.recv_arena, &mut room.out);
     black_box(r);
 }
 
 fn shuffled(room: &mut Room) {
-    let mut r = recv_buf(&room.recv_arena);
-    for p in &room.shuffled {
-        step(
-            raw::recv_buf_write(
-                r,
-                &mut room.recv_arena,
-                p.start as u64,
-                &room.input[p.clone()],
-                p.end == TOTAL,
-            ),
-            &mut r,
-        );
-    }
+    let mut r = received(&room.shuffled, &room.input, &mut room.recv_arena);
     read(&mut r, &room.recv_arena, &mut room.out);
     black_box(r);
 }
