@@ -8,7 +8,7 @@ use std::process::Command;
 fn main() {
     println!("cargo:rerun-if-env-changed=VALEMKHOR_LIB");
     if std::env::var("CARGO_CFG_TARGET_ARCH").as_deref() != Ok("x86_64") {
-        panic!("libstream_c.a is x86-64 code: build for that, as by `cargo test --target x86_64-unknown-linux-gnu`");
+        panic!("libstream_c.a is x86-64 code: tools/cargo-x86-64 builds and runs for that on another processor");
     }
     let folder = match std::env::var_os("VALEMKHOR_LIB") {
         Some(folder) => PathBuf::from(folder),
