@@ -189,11 +189,12 @@ pub fn picture(results: &[Result]) -> String {
     let rows: Vec<&Result> = results.iter().filter(|r| !PASSING.contains(&r.work.as_str())).collect();
     let scale = Scale::of(&rows);
     let height = 106.0 + 66.0 * rows.len() as f64;
-    let heading = if scale.timed {
-        "Microseconds for a run: median, x86-64"
+    let measured = if scale.timed {
+        "Microseconds for a run, median"
     } else {
-        "Instructions for a run: x86-64"
+        "Instructions for a run"
     };
+    let heading = format!("{measured}: {}", std::env::consts::ARCH);
     let mut svg = format!(
         "<svg xmlns=\"http://www.w3.org/2000/svg\" viewBox=\"0 0 820 {height}\" width=\"820\" height=\"{height}\" role=\"img\">\n\
          <title>{heading}: Valemkhor, quiche and plain copies</title>\n<style>{STYLE}</style>\n\

@@ -93,7 +93,10 @@ fn depth(call: impl FnOnce()) -> usize {
     // Reads the stack pointer. What is written and read below it is this thread's own stack, which is several times as deep as DEEP,
     // and holds nothing of use below the pointer.
     unsafe {
+        #[cfg(target_arch = "x86_64")]
         std::arch::asm!("mov {}, rsp", out(reg) here);
+        #[cfg(target_arch = "aarch64")]
+        std::arch::asm!("mov {}, sp", out(reg) here);
         (here - DEEP..here)
             .step_by(8)
             .for_each(|at| (at as *mut u64).write_volatile(PAINT));
