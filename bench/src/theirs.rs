@@ -68,9 +68,13 @@ pub fn emitted_whole(mut s: SendBuf, room: &mut Room) {
     assert_eq!(s.emit(&mut room.out), Ok((TOTAL, true)));
 }
 
-fn received(r: &mut RecvBuf, input: &[u8], p: &Range<usize>) {
-    let frame = RangeBuf::from(&input[p.clone()], p.start as u64, p.end == TOTAL);
-    r.write(frame).unwrap();
+fn received(frames: &[Range<usize>], input: &[u8]) -> RecvBuf {
+    let mut r = recv_buf();
+    for p in frames {
+        let (off, end) = (p.start as u64, p.end == TOTAL);
+        r.write(RangeBuf::from(&input[p.clone()], off, end)).unwrap();
+    }
+    r
 }
 
 fn read(r: &mut RecvBuf, out: &mut [u8]) {
@@ -80,19 +84,13 @@ fn read(r: &mut RecvBuf, out: &mut [u8]) {
 }
 
 fn in_order(room: &mut Room) {
-    let mut r = recv_buf();
-    for p in &room.pieces {
-        received(&mut r, &room.input, p);
-    }
+    let mut r = received(&room.pieces, &room.input);
     read(&mut r, &mut room.out);
     black_box(r);
 }
 
 fn shuffled(room: &mut Room) {
-    let mut r = recv_buf();
-    for p in &room.shuffled {
-        received(&mut r, &room.input, p);
-    }
+    let mut r = received(&room.shuffled, &room.input);
     read(&mut r, &mut room.out);
     black_box(r);
 }
