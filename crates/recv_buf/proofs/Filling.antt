@@ -15,7 +15,7 @@ use Rattle.recv_buf.specs.declared.Entries.{Entries}
 use Rattle.recv_buf.specs.State.{viewOf, Good}
 use Rattle.recv_buf.specs.Rules.{run, filled, markedAt}
 use Rattle.recv_buf.specs.Steps.{listed, pushed, pushedAll, pushedRun, endsAt, lastRun}
-use Rattle.recv_buf.proofs.Good.{chunks-length, table, few, next, done}
+use Rattle.recv_buf.proofs.Good.{chunks-length, table, few, next, done, chain-at}
 use Rattle.recv_buf.proofs.Pushing.{stored, push-all}
 
 -- ---- the chunks of a buffer, as they stand
@@ -51,10 +51,15 @@ module _ (c : RangeBuf) (cs : List RangeBuf) (lo hi : ℕ) where
   pub filled-last : hi ≤ start c → filled (c ∷ cs) lo hi ≡ lastRun lo hi (c ∷ cs)
   filled-last h = rw (le-leb hi (start c) h)
 
-  -- it starts below the end
-  pub filled-more : start c < hi → (t : Entries)
-      → pushedAll t (filled (c ∷ cs) lo hi) ≡ pushedAll (pushed (pushedRun t lo (start c)) c) (filled cs (max lo (end c)) hi)
-  filled-more h t = rw (lt-leb hi (start c) h) (run-pushed t lo (start c) (c ∷ filled cs (max lo (end c)) hi))
+  -- it starts below the end: the run before it, if there is one, else the chunk
+  module _ (h : start c < hi) where
+    pub filled-run : c .pos ≤ c .len → lo < start c → filled (c ∷ cs) lo hi ≡ fresh lo (start c - lo) ∷ filled (c ∷ cs) (start c) hi
+    filled-run w l =
+        let m : max lo (end c) ≡ max (start c) (end c) = omega arith in
+        rw (lt-leb hi (start c) h, lt-ltb lo (start c) l, le-ltb (start c) (start c) (omega arith), m)
+
+    pub filled-chunk : start c ≤ lo → filled (c ∷ cs) lo hi ≡ c ∷ filled cs (max lo (end c)) hi
+    filled-chunk l = rw (lt-leb hi (start c) h, le-ltb lo (start c) l)
 
   -- the chunk behind the last run, an empty one at its end or another
   pub last-none : hi ≤ lo → lastRun lo hi (c ∷ cs) ≡ c ∷ cs
@@ -100,13 +105,15 @@ module _ (b : RecvBuf) (g : Good b) (i lo hi : ℕ) (lt : i < b .count) (t : Ent
 -- the entries of the first i chunks and of the runs before them stand: to list the rest from here gives the whole
 pub record Filling (b : RecvBuf) (hi : ℕ) (t₀ : Entries) (from : ℕ) (t : Entries) (lo i : ℕ) : Type 0 where
   pub low : i ≤ b .count
-  pub size : t .count ≤ 2 * i
+  -- two for each chunk, and the run before the next chunk, once it is listed
+  pub size : t .count ≤ 2 * i + 1
+  pub spare : lo < start (getD (b .«data») i zeroBuf) → t .count ≤ 2 * i
   pub rest : pushedAll t (filled (drop i (viewOf b .chunks)) lo hi) ≡ pushedAll t₀ (filled (viewOf b .chunks) from hi)
 
 module _ (b : RecvBuf) (g : Good b) (hi : ℕ) (t₀ : Entries) (none : t₀ ≡ listed []) (from : ℕ) where
   pub fills-begin : Filling b hi t₀ from t₀ from 0
   unfolding listed
-  fills-begin = record { low = omega arith; size = rw none (omega arith); rest = refl }
+  fills-begin = record { low = omega arith; size = rw none (omega arith); spare = λ _. rw none (omega arith); rest = refl }
 
   -- what is listed in the end
   whole : pushedAll t₀ (filled (viewOf b .chunks) from hi) ≡ listed (filled (viewOf b .chunks) from hi)
@@ -131,17 +138,37 @@ module _ (b : RecvBuf) (g : Good b) (hi : ℕ) (t₀ : Entries) (none : t₀ ≡
           ∙ f .rest
           ∙ whole
 
-      pub fills-more : start (getD (b .«data») i zeroBuf) < hi
-          → Filling b hi t₀ from (pushed (pushedRun t lo (start (getD (b .«data») i zeroBuf))) (getD (b .«data») i zeroBuf)) (max lo (end (getD (b .«data») i zeroBuf))) (i + 1)
-      unfolding pushed
-      fills-more h =
-          let x = next b g i lt in
-          let c = getD (b .«data») i zeroBuf in
-          record {
-            low = omega (arith, lt);
-            size = omega (arith, run-count t lo (start c), f .size);
-            rest =
-                sym (filled-more c (drop (i + 1) (viewOf b .chunks)) lo hi h t)
-                ∙ ap (λ (l : List RangeBuf). pushedAll t (filled l lo hi)) (sym x)
-                ∙ f .rest;
-          }
+      -- one entry more
+      module _ (h : start (getD (b .«data») i zeroBuf) < hi) where
+        pub fills-run : lo < start (getD (b .«data») i zeroBuf)
+            → Filling b hi t₀ from (pushed t (fresh lo (start (getD (b .«data») i zeroBuf) - lo))) (start (getD (b .«data») i zeroBuf)) i
+        unfolding pushed
+        fills-run l =
+            let x = next b g i lt in
+            let c = getD (b .«data») i zeroBuf in
+            record {
+              low = f .low;
+              size = omega (arith, f .spare l);
+              spare = λ (m : start c < start c). omega (arith, m);
+              rest =
+                  ap (λ (z : List RangeBuf). pushedAll (pushed t (fresh lo (start c - lo))) (filled z (start c) hi)) x
+                  ∙ ap (pushedAll t) (sym (filled-run c (drop (i + 1) (viewOf b .chunks)) lo hi h (chain-at b g i lt .1) l))
+                  ∙ ap (λ (z : List RangeBuf). pushedAll t (filled z lo hi)) (sym x)
+                  ∙ f .rest;
+            }
+
+        pub fills-chunk : start (getD (b .«data») i zeroBuf) ≤ lo
+            → Filling b hi t₀ from (pushed t (getD (b .«data») i zeroBuf)) (max lo (end (getD (b .«data») i zeroBuf))) (i + 1)
+        unfolding pushed
+        fills-chunk l =
+            let x = next b g i lt in
+            let c = getD (b .«data») i zeroBuf in
+            record {
+              low = omega (arith, lt);
+              size = omega (arith, f .size);
+              spare = λ _. omega (arith, f .size);
+              rest =
+                  ap (pushedAll t) (sym (filled-chunk c (drop (i + 1) (viewOf b .chunks)) lo hi h l))
+                  ∙ ap (λ (z : List RangeBuf). pushedAll t (filled z lo hi)) (sym x)
+                  ∙ f .rest;
+            }

@@ -2,7 +2,7 @@
 use mathlib.Core.Path.{_≡_, refl, sym, ap, _∙_}
 use mathlib.Core.Bool.{cond}
 use mathlib.Core.List.{List, [], _∷_, _++_, append-assoc, append-nil}
-use Prim.Native.Nat.{ℕ, suc, _+_, _-_, _≤_}
+use Prim.Native.Nat.{ℕ, suc, _+_, _-_, _≤_, _<_}
 use native.Mathlib.Omega.{arith}
 use borrow.Author.Tests.{lt-ltb, le-ltb}
 use lib.Dec.{ltb}
@@ -54,6 +54,16 @@ push-listed l c =
       take-append-le 64 l ((c ∷ []) ++ replicate (64 - length (l ++ (c ∷ []))) zeroBuf) le,
     ) in
     λ j. record { «data» = z j; count = m j })
+
+-- as a loop stores it: in its place, or past the last place only counted
+module _ (t : Entries) (c : RangeBuf) where
+  pub store-in : t .count < 64 → _≡_ {A = Entries} (record { «data» = set (t .«data») (t .count) c; count = t .count + 1 }) (pushed t c)
+  unfolding pushed
+  store-in h = rw (lt-ltb (t .count) 64 h)
+
+  pub store-past : 64 ≤ t .count → _≡_ {A = Entries} (record { «data» = t .«data»; count = t .count + 1 }) (pushed t c)
+  unfolding pushed
+  store-past h = rw (le-ltb (t .count) 64 h)
 
 -- a list of them
 pub push-all : (l cs : List RangeBuf) → pushedAll (listed l) cs ≡ listed (l ++ cs)

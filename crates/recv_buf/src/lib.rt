@@ -514,9 +514,21 @@ impl RecvBuf {
             if hi <= start {
                 return self.before_rest(next, i, lo, hi);
             }
-            next = next.run(lo, start).push(chunk);
-            lo = refusal::most(lo, chunk.max_off());
-            i += 1;
+            // One entry more: the run before the chunk, if there is one, else the chunk.
+            let at = next.count;
+            next.count = at + 1;
+            if lo < start {
+                if at < 64 {
+                    next.data[at] = chunk_of(lo, start - lo);
+                }
+                lo = start;
+            } else {
+                if at < 64 {
+                    next.data[at] = chunk;
+                }
+                lo = refusal::most(lo, chunk.max_off());
+                i += 1;
+            }
         }
         next.run(lo, hi)
     }
@@ -715,8 +727,12 @@ impl RecvBuf {
         let mut next = front;
         let mut i = from;
         while i < count {
-            let chunk = self.data[i];
-            next = next.push(chunk);
+            let at = next.count;
+            if at < 64 {
+                let chunk = self.data[i];
+                next.data[at] = chunk;
+            }
+            next.count = at + 1;
             i += 1;
         }
         next

@@ -1,14 +1,18 @@
 -- `RecvBuf::filled` meets its contract. The invariant, `Filling`: to list the rest from here gives the whole. Assumes nothing.
+use mathlib.Core.Logic.{⊎-elim}
 use mathlib.Core.Path.{_≡_, _∙_}
 use mathlib.Core.List.{[]}
-use Prim.Native.Nat.{_-_, _≤_}
+use Prim.Native.Nat.{_+_, _-_, _≤_}
 use native.Mathlib.Omega.{arith}
 use borrow.Author.Needs.{needs}
+use lib.ListN.{getD}
 use Rattle.refusal.specs.Rules.{M}
+use Rattle.range_buf.specs.Rules.{fresh, zeroBuf}
 use Rattle.recv_buf.specs.Rules.{run, taken}
-use Rattle.recv_buf.specs.Steps.{listed}
-use Rattle.recv_buf.proofs.Filling.{run-count, Filling, fills-begin, fills-end, fills-last, fills-more}
+use Rattle.recv_buf.specs.Steps.{listed, pushed}
+use Rattle.recv_buf.proofs.Filling.{Filling, fills-begin, fills-end, fills-last, fills-run, fills-chunk}
 use Rattle.recv_buf.proofs.Good.{few, next, chunk-good}
+use Rattle.recv_buf.proofs.Pushing.{store-in, store-past}
 use Rattle.recv_buf.proofs.RecvBuf.filled.Statement.{statement}
 use Rattle.recv_buf.proofs.RecvBuf.filled.Tie as tie
 
@@ -16,7 +20,7 @@ abbrev Inv-loop : tie.InvT-loop
 Inv-loop from hi self count next₀ lo₀ i₀ next lo i = (count ≤ 64) × (next₀ ≡ listed []) × Filling self hi next₀ from next lo i
 
 abbrev μ-loop : tie.MeasureT-loop
-μ-loop from hi self count next₀ lo₀ i₀ next lo i = count - i
+μ-loop from hi self count next₀ lo₀ i₀ next lo i = (count - i) + (M - lo)
 
 none-requires : tie.Need-none-requires Inv-loop μ-loop
 none-requires c κs = search needs
@@ -49,16 +53,64 @@ returns c =
     ∙ fills-last (a .args .t1) (a .pre .0) (a .args .hi) (l .before .none .result) (l .before .none .ensures) (a .args .from) (l .loop .next) (l .loop .lo) (l .loop .i) (l .loop .inv .2) (search needs)
     (rw (c .before .before .off .ensures) at (c .before .if1 .taken))
 
-run-requires : tie.Need-run-requires Inv-loop μ-loop
-run-requires c κs =
-    let l = c .before .before .before .before in
-    let a = l .before .before in
-    (omega (arith, l .loop .inv .2 .size, l .loop .inv .2 .low, l .loop .inv .0), omega (arith, c .if1 .left, a .pre .1))
+add-next : tie.Need-add-next Inv-loop μ-loop
+add-next c = let l = c .before .before .before .before in omega (arith, l .loop .inv .2 .size, l .loop .inv .2 .low, l .loop .inv .0)
 
-push-requires : tie.Need-push-requires Inv-loop μ-loop
-push-requires c κs =
-    let l = c .before .before .before .before .before in
-    rw (c .run .ensures) (omega (arith, run-count (l .loop .next) (l .loop .lo) (c .before .before .off .result), l .loop .inv .2 .size, l .loop .inv .2 .low, l .loop .inv .0))
+sub-chunk-of : tie.Need-sub-chunk-of Inv-loop μ-loop
+sub-chunk-of c = search needs
+
+chunk-of-requires : tie.Need-chunk-of-requires Inv-loop μ-loop
+chunk-of-requires c κs =
+    let o = c .before .before .before in
+    omega (arith, c .before .if2 .taken, c .before .before .if1 .left, o .before .before .before .before .before .pre .1)
+
+mul-t23 : tie.Need-mul-t23 Inv-loop μ-loop
+mul-t23 c = search needs
+
+element-set-from-next : tie.Need-element-set-from-next Inv-loop μ-loop
+element-set-from-next c = search needs
+
+loop-less : tie.Need-loop-less Inv-loop μ-loop
+loop-less c =
+    let o = c .before .before .before .before in
+    let l = o .before .before .before in
+    omega (arith, c .before .before .if2 .taken, c .before .before .before .if1 .left, l .before .before .pre .1)
+
+loop-again : tie.Need-loop-again Inv-loop μ-loop
+loop-again c =
+    let o = c .before .before .before .before in
+    let l = o .before .before .before in
+    let a = l .before .before in (
+      l .loop .inv .0,
+      l .loop .inv .1,
+      rw (store-in (l .loop .next) (c .chunk-of .result) (c .before .if3 .taken), c .chunk-of .ensures, o .off .ensures)
+          (fills-run (a .args .t1) (a .pre .0) (a .args .hi) (l .before .none .result) (l .before .none .ensures) (a .args .from) (l .loop .next) (l .loop .lo) (l .loop .i) (l .loop .inv .2) (search needs)
+          (rw (o .off .ensures) at (c .before .before .before .if1 .left)) (rw (o .off .ensures) at (c .before .before .if2 .taken))),
+    )
+
+loop-less-2 : tie.Need-loop-less-2 Inv-loop μ-loop
+loop-less-2 c =
+    let o = c .before .before .before in
+    let l = o .before .before .before in
+    omega (arith, c .before .if2 .taken, c .before .before .if1 .left, l .before .before .pre .1)
+
+loop-again-2 : tie.Need-loop-again-2 Inv-loop μ-loop
+loop-again-2 c =
+    let o = c .before .before .before in
+    let l = o .before .before .before in
+    let a = l .before .before in (
+      l .loop .inv .0,
+      l .loop .inv .1,
+      rw (store-past (l .loop .next) (fresh (l .loop .lo) (o .off .result - l .loop .lo)) (c .if3 .left), o .off .ensures)
+          (fills-run (a .args .t1) (a .pre .0) (a .args .hi) (l .before .none .result) (l .before .none .ensures) (a .args .from) (l .loop .next) (l .loop .lo) (l .loop .i) (l .loop .inv .2) (search needs)
+          (rw (o .off .ensures) at (c .before .before .if1 .left)) (rw (o .off .ensures) at (c .before .if2 .taken))),
+    )
+
+mul-chunk-2 : tie.Need-mul-chunk-2 Inv-loop μ-loop
+mul-chunk-2 c = search needs
+
+element-set-from-chunk : tie.Need-element-set-from-chunk Inv-loop μ-loop
+element-set-from-chunk c = search needs
 
 max-off-requires : tie.Need-max-off-requires Inv-loop μ-loop
 max-off-requires c κs =
@@ -71,23 +123,28 @@ most-requires c κs = search needs
 add-i : tie.Need-add-i Inv-loop μ-loop
 add-i c = search needs
 
-loop-less : tie.Need-loop-less Inv-loop μ-loop
-loop-less c = search needs
+loop-less-3 : tie.Need-loop-less-3 Inv-loop μ-loop
+loop-less-3 c = search needs
 
-loop-again : tie.Need-loop-again Inv-loop μ-loop
-loop-again c =
-    let o = c .before .before .before .before .before in
+loop-again-3 : tie.Need-loop-again-3 Inv-loop μ-loop
+loop-again-3 c =
+    let j = c .before .before in
+    let o = j .before .before .before in
     let l = o .before .before .before in
-    let a = l .before .before in (
+    let a = l .before .before in
+    let t = l .loop .next in
+    let d = getD (a .args .t1 .«data») (l .loop .i) zeroBuf in
+    let p : j .if4 .next ≡ pushed t d =
+    ⊎-elim (λ w. w .1 ∙ store-in t d (w .0 .taken)) (λ w. w .1 ∙ store-past t d (w .0 .left)) (j .if4 .came) in (
       l .loop .inv .0,
       l .loop .inv .1,
-      rw (c .most .ensures .0, c .before .max-off .ensures, c .before .before .push .ensures, c .before .before .before .run .ensures, o .off .ensures)
-          (fills-more (a .args .t1) (a .pre .0) (a .args .hi) (l .before .none .result) (l .before .none .ensures) (a .args .from) (l .loop .next) (l .loop .lo) (l .loop .i) (l .loop .inv .2) (search needs)
-          (rw (o .off .ensures) at (c .before .before .before .before .if1 .left))),
+      rw (p, c .most .ensures .0, c .before .max-off .ensures)
+          (fills-chunk (a .args .t1) (a .pre .0) (a .args .hi) (l .before .none .result) (l .before .none .ensures) (a .args .from) t (l .loop .lo) (l .loop .i) (l .loop .inv .2) (search needs)
+          (rw (o .off .ensures) at (j .before .before .if1 .left)) (rw (o .off .ensures) at (j .before .if2 .left))),
     )
 
-run-requires-2 : tie.Need-run-requires-2 Inv-loop μ-loop
-run-requires-2 c κs =
+run-requires : tie.Need-run-requires Inv-loop μ-loop
+run-requires c κs =
     let l = c .before in
     (omega (arith, l .loop .inv .2 .size, l .loop .inv .2 .low, l .loop .inv .0), l .before .before .pre .1)
 
@@ -95,7 +152,7 @@ returns-2 : tie.Need-returns-2 Inv-loop μ-loop
 returns-2 c =
     let l = c .before .before in
     let a = l .before .before in
-    c .run2 .ensures ∙ fills-end (a .args .t1) (a .pre .0) (a .args .hi) (l .before .none .result) (l .before .none .ensures) (a .args .from) (l .loop .next) (l .loop .lo) (l .loop .i) (l .loop .inv .2) (search needs)
+    c .run .ensures ∙ fills-end (a .args .t1) (a .pre .0) (a .args .hi) (l .before .none .result) (l .before .none .ensures) (a .args .from) (l .loop .next) (l .loop .lo) (l .loop .i) (l .loop .inv .2) (search needs)
 
 pub filled-spec : {M : Type 1} → statement M
 filled-spec =
@@ -110,12 +167,21 @@ filled-spec =
     off-requires
     before-rest-requires
     returns
-    run-requires
-    push-requires
+    add-next
+    sub-chunk-of
+    chunk-of-requires
+    mul-t23
+    element-set-from-next
+    loop-less
+    loop-again
+    loop-less-2
+    loop-again-2
+    mul-chunk-2
+    element-set-from-chunk
     max-off-requires
     most-requires
     add-i
-    loop-less
-    loop-again
-    run-requires-2
+    loop-less-3
+    loop-again-3
+    run-requires
     returns-2)
