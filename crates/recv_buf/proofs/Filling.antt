@@ -1,21 +1,21 @@
 -- The chunks after a frame, as the code lists them: entry by entry, from the lowest on. Assumes nothing.
 use mathlib.Core.Path.{_≡_, refl, sym, ap, _∙_}
-use mathlib.Core.Bool.{true, false}
+use mathlib.Core.Bool.{true, false, _&&_, false≢true}
 use mathlib.Core.List.{List, [], _∷_, _++_}
-use Prim.Native.Nat.{ℕ, _+_, _-_, _*_, _≤_, _<_, max}
+use Prim.Native.Nat.{ℕ, _+_, _-_, _*_, _≤_, _<_, min, max}
 use native.Mathlib.Omega.{arith}
-use borrow.Author.Tests.{lt-ltb, le-ltb, le-leb, lt-leb, eq-eqb, ne-eqb}
-use lib.Dec.{ltb, eqb}
+use borrow.Author.Tests.{lt-ltb, le-ltb, le-leb, lt-leb, eq-eqb, ne-eqb, eqb-true}
+use lib.Dec.{eqb}
 use lib.ListN.{drop, getD}
-use Rattle.tables.proofs.Tables.{by-test}
+use Rattle.tables.proofs.Tables.{cases, by-test}
 use Rattle.range_buf.specs.declared.RangeBuf.{RangeBuf}
 use Rattle.range_buf.specs.Rules.{start, end, fresh, zeroBuf}
 use Rattle.recv_buf.specs.declared.RecvBuf.{RecvBuf}
 use Rattle.recv_buf.specs.declared.Entries.{Entries}
 use Rattle.recv_buf.specs.State.{viewOf, Good}
 use Rattle.recv_buf.specs.Rules.{run, filled, markedAt}
-use Rattle.recv_buf.specs.Steps.{listed, pushed, pushedAll, pushedRun, endsAt, lastRun}
-use Rattle.recv_buf.proofs.Good.{chunks-length, table, few, next, done, chain-at}
+use Rattle.recv_buf.specs.Steps.{listed, pushed, pushedAll, endsAt}
+use Rattle.recv_buf.proofs.Good.{chunks-length, table, next, done, chain-at}
 use Rattle.recv_buf.proofs.Pushing.{stored, push-all}
 
 -- ---- the chunks of a buffer, as they stand
@@ -43,132 +43,117 @@ marked-new (c ∷ cs) f e =
 
 -- ---- a step of the runs
 
-pub run-pushed : (t : Entries) (lo hi : ℕ) (cs : List RangeBuf) → pushedAll t (run lo hi cs) ≡ pushedAll (pushedRun t lo hi) cs
-run-pushed t lo hi cs = by-test (ltb lo hi) (λ y. rw y) (λ n. rw n)
+-- no bytes came: the chunks stay
+filled-none : (cs : List RangeBuf) (lo hi : ℕ) → hi ≤ lo → filled cs lo hi ≡ cs
+filled-none [] lo hi h = rw (le-ltb lo hi h)
+filled-none (c ∷ cs) lo hi h =
+    cases (start c) hi
+    (λ lt. rw (lt-leb hi (start c) lt, le-ltb lo (start c) (omega arith)) (ap (λ (l : List RangeBuf). c ∷ l) (filled-none cs (max lo (end c)) hi (omega arith))))
+    (λ le. rw (le-leb hi (start c) le, le-ltb lo hi h))
 
-module _ (c : RangeBuf) (cs : List RangeBuf) (lo hi : ℕ) where
-  -- the chunk lies at or above the end
-  pub filled-last : hi ≤ start c → filled (c ∷ cs) lo hi ≡ lastRun lo hi (c ∷ cs)
-  filled-last h = rw (le-leb hi (start c) h)
+-- before the first chunk a run ends where that starts, or at hi
+module _ (c : RangeBuf) (cs : List RangeBuf) (lo hi stop : ℕ) (stops : stop ≡ min (start c) hi) where
+  -- a run, and the chunk stays
+  filled-run : c .pos ≤ c .len → lo < stop → (eqb (start c) hi && eqb (end c) hi) ≡ false
+      → filled (c ∷ cs) lo hi ≡ fresh lo (stop - lo) ∷ filled (c ∷ cs) stop hi
+  filled-run w l n =
+      cases (start c) hi
+      (λ lt.
+      let s : stop ≡ start c = omega (arith, stops) in
+      let m : max lo (end c) ≡ max (start c) (end c) = omega arith in
+      rw (s, lt-leb hi (start c) lt, lt-ltb lo (start c) (omega arith), le-ltb (start c) (start c) (omega arith), m))
+      (λ le.
+      let s : stop ≡ hi = omega (arith, stops) in
+      let o : end c ≡ hi → ⊥ = λ e. let t : true ≡ false = rw (eq-eqb (start c) hi (omega arith), eq-eqb (end c) hi e) at n in false≢true (sym t) in
+      rw (s, filled-none (c ∷ cs) hi hi (omega arith), le-leb hi (start c) le, lt-ltb lo hi (omega arith), ne-eqb (end c) hi o))
 
-  -- it starts below the end: the run before it, if there is one, else the chunk
-  module _ (h : start c < hi) where
-    pub filled-run : c .pos ≤ c .len → lo < start c → filled (c ∷ cs) lo hi ≡ fresh lo (start c - lo) ∷ filled (c ∷ cs) (start c) hi
-    filled-run w l =
-        let m : max lo (end c) ≡ max (start c) (end c) = omega arith in
-        rw (lt-leb hi (start c) h, lt-ltb lo (start c) l, le-ltb (start c) (start c) (omega arith), m)
+  -- the last run, and an empty chunk at its end goes
+  filled-mark : lo < stop → (eqb (start c) hi && eqb (end c) hi) ≡ true → filled (c ∷ cs) lo hi ≡ fresh lo (stop - lo) ∷ filled cs stop hi
+  filled-mark l m =
+      by-test (eqb (start c) hi)
+      (λ y.
+      let e : eqb (end c) hi ≡ true = rw y at m in
+      let a = eqb-true (start c) hi y in
+      let s : stop ≡ hi = omega (arith, stops) in
+      rw (s, filled-none cs hi hi (omega arith), le-leb hi (start c) (omega arith), lt-ltb lo hi (omega arith), e))
+      (λ n. let t : false ≡ true = rw n at m in absurd (false≢true t))
 
-    pub filled-chunk : start c ≤ lo → filled (c ∷ cs) lo hi ≡ c ∷ filled cs (max lo (end c)) hi
-    filled-chunk l = rw (lt-leb hi (start c) h, le-ltb lo (start c) l)
-
-  -- the chunk behind the last run, an empty one at its end or another
-  pub last-none : hi ≤ lo → lastRun lo hi (c ∷ cs) ≡ c ∷ cs
-  last-none h = rw (le-ltb lo hi h)
-
-  pub last-mark : lo < hi → end c ≡ hi → lastRun lo hi (c ∷ cs) ≡ fresh lo (hi - lo) ∷ cs
-  last-mark h e = rw (lt-ltb lo hi h, eq-eqb (end c) hi e)
-
-  pub last-other : lo < hi → (end c ≡ hi → ⊥) → lastRun lo hi (c ∷ cs) ≡ fresh lo (hi - lo) ∷ c ∷ cs
-  last-other h e = rw (lt-ltb lo hi h, ne-eqb (end c) hi e)
-
--- one run adds at most one entry
-pub run-count : (t : Entries) (lo hi : ℕ) → pushedRun t lo hi .count ≤ t .count + 1
-unfolding pushed
-run-count t lo hi = by-test (ltb lo hi) (λ y. rw y (omega arith)) (λ n. rw n (omega arith))
-
--- ---- the last run, before the chunks from i on
-
-module _ (b : RecvBuf) (g : Good b) (i lo hi : ℕ) (lt : i < b .count) (t : Entries) where
-  pub rest-none : hi ≤ lo → pushedAll t (drop i (viewOf b .chunks)) ≡ pushedAll t (lastRun lo hi (drop i (viewOf b .chunks)))
-  rest-none h =
-      let x = next b g i lt in
-      ap (pushedAll t) (x ∙ sym (last-none (getD (b .«data») i zeroBuf) (drop (i + 1) (viewOf b .chunks)) lo hi h) ∙ ap (lastRun lo hi) (sym x))
-
-  module _ (h : lo < hi) where
-    pub rest-mark : end (getD (b .«data») i zeroBuf) ≡ hi → pushedAll (pushedRun t lo hi) (drop (i + 1) (viewOf b .chunks)) ≡ pushedAll t (lastRun lo hi (drop i (viewOf b .chunks)))
-    rest-mark e =
-        let x = next b g i lt in
-        let y : pushedRun t lo hi ≡ pushed t (fresh lo (hi - lo)) = rw (lt-ltb lo hi h) in
-        ap (λ (z : Entries). pushedAll z (drop (i + 1) (viewOf b .chunks))) y
-        ∙ ap (pushedAll t) (sym (last-mark (getD (b .«data») i zeroBuf) (drop (i + 1) (viewOf b .chunks)) lo hi h e) ∙ ap (lastRun lo hi) (sym x))
-
-    pub rest-other : (end (getD (b .«data») i zeroBuf) ≡ hi → ⊥) → pushedAll (pushedRun t lo hi) (drop i (viewOf b .chunks)) ≡ pushedAll t (lastRun lo hi (drop i (viewOf b .chunks)))
-    rest-other n =
-        let x = next b g i lt in
-        let y : pushedRun t lo hi ≡ pushed t (fresh lo (hi - lo)) = rw (lt-ltb lo hi h) in
-        ap (λ (z : Entries). pushedAll z (drop i (viewOf b .chunks))) y
-        ∙ ap (pushedAll (pushed t (fresh lo (hi - lo)))) x
-        ∙ ap (pushedAll t) (sym (last-other (getD (b .«data») i zeroBuf) (drop (i + 1) (viewOf b .chunks)) lo hi h n) ∙ ap (lastRun lo hi) (sym x))
+  -- no run
+  filled-chunk : stop ≤ lo → filled (c ∷ cs) lo hi ≡ c ∷ filled cs (max lo (end c)) hi
+  filled-chunk l =
+      cases (start c) hi
+      (λ lt. rw (lt-leb hi (start c) lt, le-ltb lo (start c) (omega (arith, stops))))
+      (λ le.
+      let h : hi ≤ lo = omega (arith, stops) in
+      rw (filled-none cs (max lo (end c)) hi (omega arith), le-leb hi (start c) le, le-ltb lo hi h))
 
 -- ---- the loop
 
 -- the entries of the first i chunks and of the runs before them stand: to list the rest from here gives the whole
 pub record Filling (b : RecvBuf) (hi : ℕ) (t₀ : Entries) (from : ℕ) (t : Entries) (lo i : ℕ) : Type 0 where
   pub low : i ≤ b .count
-  -- two for each chunk, and the run before the next chunk, once it is listed
+  -- two for each chunk, and one for the run before the next, once that is listed
   pub size : t .count ≤ 2 * i + 1
-  pub spare : lo < start (getD (b .«data») i zeroBuf) → t .count ≤ 2 * i
+  pub spare : lo < start (getD (b .«data») i zeroBuf) → lo < hi → t .count ≤ 2 * i
   pub rest : pushedAll t (filled (drop i (viewOf b .chunks)) lo hi) ≡ pushedAll t₀ (filled (viewOf b .chunks) from hi)
 
 module _ (b : RecvBuf) (g : Good b) (hi : ℕ) (t₀ : Entries) (none : t₀ ≡ listed []) (from : ℕ) where
   pub fills-begin : Filling b hi t₀ from t₀ from 0
   unfolding listed
-  fills-begin = record { low = omega arith; size = rw none (omega arith); spare = λ _. rw none (omega arith); rest = refl }
-
-  -- what is listed in the end
-  whole : pushedAll t₀ (filled (viewOf b .chunks) from hi) ≡ listed (filled (viewOf b .chunks) from hi)
-  whole = rw none (push-all [] (filled (viewOf b .chunks) from hi))
+  fills-begin = record { low = omega arith; size = rw none (omega arith); spare = λ _ _. rw none (omega arith); rest = refl }
 
   module _ (t : Entries) (lo i : ℕ) (f : Filling b hi t₀ from t lo i) where
-    pub fills-end : b .count ≤ i → pushedRun t lo hi ≡ listed (filled (viewOf b .chunks) from hi)
-    fills-end h =
-        sym (run-pushed t lo hi [])
-        ∙ ap (λ (l : List RangeBuf). pushedAll t (filled l lo hi)) (sym (done b g i h))
+    -- behind the last chunk: what is left of the bytes is one run
+    whole : b .count ≤ i → pushedAll t (run lo hi []) ≡ listed (filled (viewOf b .chunks) from hi)
+    whole h =
+        ap (λ (l : List RangeBuf). pushedAll t (filled l lo hi)) (sym (done b g i h))
         ∙ f .rest
-        ∙ whole
+        ∙ rw none (push-all [] (filled (viewOf b .chunks) from hi))
 
-    module _ (lt : i < b .count) where
-      pub fills-last : hi ≤ start (getD (b .«data») i zeroBuf)
-          → pushedAll t (lastRun lo hi (drop i (viewOf b .chunks))) ≡ listed (filled (viewOf b .chunks) from hi)
-      fills-last h =
-          let x = next b g i lt in
-          ap (λ (l : List RangeBuf). pushedAll t (lastRun lo hi l)) x
-          ∙ ap (pushedAll t) (sym (filled-last (getD (b .«data») i zeroBuf) (drop (i + 1) (viewOf b .chunks)) lo hi h))
-          ∙ ap (λ (l : List RangeBuf). pushedAll t (filled l lo hi)) (sym x)
-          ∙ f .rest
-          ∙ whole
+    pub fills-last : b .count ≤ i → lo < hi → pushed t (fresh lo (hi - lo)) ≡ listed (filled (viewOf b .chunks) from hi)
+    fills-last h l = rw (lt-ltb lo hi l) at (whole h)
 
-      -- one entry more
-      module _ (h : start (getD (b .«data») i zeroBuf) < hi) where
-        pub fills-run : lo < start (getD (b .«data») i zeroBuf)
-            → Filling b hi t₀ from (pushed t (fresh lo (start (getD (b .«data») i zeroBuf) - lo))) (start (getD (b .«data») i zeroBuf)) i
+    pub fills-end : b .count ≤ i → hi ≤ lo → t ≡ listed (filled (viewOf b .chunks) from hi)
+    fills-end h l = rw (le-ltb lo hi l) at (whole h)
+
+    -- one entry more
+    module _ (lt : i < b .count) (stop : ℕ) (stops : stop ≡ min (start (getD (b .«data») i zeroBuf)) hi) where
+      abbrev c : RangeBuf
+      c = getD (b .«data») i zeroBuf
+
+      abbrev cs : List RangeBuf
+      cs = drop (i + 1) (viewOf b .chunks)
+
+      listed-more : (e : RangeBuf) (l : List RangeBuf) (k : ℕ) → filled (c ∷ cs) lo hi ≡ e ∷ filled l k hi
+          → pushedAll (pushed t e) (filled l k hi) ≡ pushedAll t₀ (filled (viewOf b .chunks) from hi)
+      listed-more e l k p = ap (pushedAll t) (sym p) ∙ ap (λ (z : List RangeBuf). pushedAll t (filled z lo hi)) (sym (next b g i lt)) ∙ f .rest
+
+      module _ (l : lo < stop) where
+        pub fills-run : (eqb (start c) hi && eqb (end c) hi) ≡ false → Filling b hi t₀ from (pushed t (fresh lo (stop - lo))) stop i
         unfolding pushed
-        fills-run l =
-            let x = next b g i lt in
-            let c = getD (b .«data») i zeroBuf in
-            record {
-              low = f .low;
-              size = omega (arith, f .spare l);
-              spare = λ (m : start c < start c). omega (arith, m);
-              rest =
-                  ap (λ (z : List RangeBuf). pushedAll (pushed t (fresh lo (start c - lo))) (filled z (start c) hi)) x
-                  ∙ ap (pushedAll t) (sym (filled-run c (drop (i + 1) (viewOf b .chunks)) lo hi h (chain-at b g i lt .1) l))
-                  ∙ ap (λ (z : List RangeBuf). pushedAll t (filled z lo hi)) (sym x)
-                  ∙ f .rest;
-            }
+        fills-run n = record {
+          low = f .low;
+          size = omega (arith, f .spare (omega (arith, stops)) (omega (arith, stops)));
+          spare = λ (m : stop < start c) (k : stop < hi). omega (arith, stops);
+          rest =
+              ap (λ (z : List RangeBuf). pushedAll (pushed t (fresh lo (stop - lo))) (filled z stop hi)) (next b g i lt)
+              ∙ listed-more (fresh lo (stop - lo)) (c ∷ cs) stop (filled-run c cs lo hi stop stops (chain-at b g i lt .1) l n);
+        }
 
-        pub fills-chunk : start (getD (b .«data») i zeroBuf) ≤ lo
-            → Filling b hi t₀ from (pushed t (getD (b .«data») i zeroBuf)) (max lo (end (getD (b .«data») i zeroBuf))) (i + 1)
+        pub fills-mark : (eqb (start c) hi && eqb (end c) hi) ≡ true → Filling b hi t₀ from (pushed t (fresh lo (stop - lo))) stop (i + 1)
         unfolding pushed
-        fills-chunk l =
-            let x = next b g i lt in
-            let c = getD (b .«data») i zeroBuf in
-            record {
-              low = omega (arith, lt);
-              size = omega (arith, f .size);
-              spare = λ _. omega (arith, f .size);
-              rest =
-                  ap (pushedAll t) (sym (filled-chunk c (drop (i + 1) (viewOf b .chunks)) lo hi h l))
-                  ∙ ap (λ (z : List RangeBuf). pushedAll t (filled z lo hi)) (sym x)
-                  ∙ f .rest;
-            }
+        fills-mark m = record {
+          low = omega (arith, lt);
+          size = omega (arith, f .size);
+          spare = λ _ _. omega (arith, f .size);
+          rest = listed-more (fresh lo (stop - lo)) cs stop (filled-mark c cs lo hi stop stops l m);
+        }
+
+      pub fills-chunk : stop ≤ lo → Filling b hi t₀ from (pushed t c) (max lo (end c)) (i + 1)
+      unfolding pushed
+      fills-chunk l = record {
+        low = omega (arith, lt);
+        size = omega (arith, f .size);
+        spare = λ _ _. omega (arith, f .size);
+        rest = listed-more c cs (max lo (end c)) (filled-chunk c cs lo hi stop stops l);
+      }

@@ -71,6 +71,12 @@ push-all l [] = ap listed (sym (append-nil l))
 push-all l (c ∷ cs) =
     ap (λ (t : Entries). pushedAll t cs) (push-listed l c) ∙ push-all (l ++ (c ∷ [])) cs ∙ ap listed (append-assoc l (c ∷ []) cs)
 
+-- another first entry
+pub front-listed : (x c : RangeBuf) (cs : List RangeBuf)
+    → _≡_ {A = Entries} (record { «data» = set (listed (c ∷ cs) .«data») 0 x; count = listed (c ∷ cs) .count }) (listed (x ∷ cs))
+unfolding listed
+front-listed x c cs = refl
+
 pub listed-count : (t : Entries) (l : List RangeBuf) → t ≡ listed l → t .count ≡ length l
 unfolding listed
 listed-count t l e = ap (λ (x : Entries). x .count) e

@@ -2,7 +2,7 @@
 use mathlib.Core.Bool.{Bool, false, cond, not, _||_}
 use mathlib.Core.List.{List, [], _∷_}
 use mathlib.Core.Path.{_≡_}
-use Prim.Native.Nat.{ℕ, _+_, _-_, _≤_}
+use Prim.Native.Nat.{ℕ, _+_, _≤_}
 use lib.Dec.{ltb, eqb}
 use lib.ListN.{length, take, drop, getD, set}
 use Rattle.tables.specs.Lists.{tableOf}
@@ -14,14 +14,14 @@ use Rattle.refusal.specs.declared.OptionU64.{OptionU64}
 use Rattle.refusal.specs.declared.OptionU64.the-variants.{None}
 use Rattle.flowcontrol.specs.declared.FlowControl.{FlowControl}
 use Rattle.range_buf.specs.declared.RangeBuf.{RangeBuf}
-use Rattle.range_buf.specs.Rules.{fresh, used, end, avail, zeroBuf}
+use Rattle.range_buf.specs.Rules.{used, end, avail, zeroBuf}
 use Rattle.flowcontrol.specs.Rules.{withConsumed}
 use Rattle.recv_buf.specs.declared.RecvBuf.{RecvBuf}
 use Rattle.recv_buf.specs.declared.Outcome.{Outcome}
 use Rattle.recv_buf.specs.declared.Entries.{Entries}
 use Rattle.recv_buf.specs.declared.Reach.{Reach}
 use Rattle.recv_buf.specs.State.{Recv, viewOf, bufOf}
-use Rattle.recv_buf.specs.Rules.{otherArena, passesFinal, noRoom, unmark, isReady, unlessReset, takes, leftOver, withChunks, withEnds, withFlow}
+use Rattle.recv_buf.specs.Rules.{otherArena, passesFinal, noRoom, isReady, unlessReset, takes, leftOver, withChunks, withEnds, withFlow}
 
 -- ---- a table in the making
 
@@ -36,10 +36,6 @@ pushed t c = record { «data» = cond (ltb (t .count) 64) (set (t .«data») (t 
 abbrev pub pushedAll : Entries → List RangeBuf → Entries
 pushedAll t [] = t
 pushedAll t (c ∷ cs) = pushedAll (pushed t c) cs
-
--- the bytes from lo to before hi as one more entry, if there are any
-abbrev pub pushedRun : Entries → ℕ → ℕ → Entries
-pushedRun t lo hi = cond (ltb lo hi) (pushed t (fresh lo (hi - lo))) t
 
 -- the buffer with another table, another end of what was handed out, highest end and final size
 abbrev pub movedTo : RecvBuf → Entries → ℕ → ℕ → OptionU64 → RecvBuf
@@ -76,10 +72,6 @@ frameJudged r a s n fin =
     cond (passesFinal (r .fin) (r .len) (s + n) fin) (Refused FinalSize) (
     cond (noRoom r s n) (Refused NoRoom) (
     Done)))))
-
--- the last run of a frame before chunks that start at or above its end
-abbrev pub lastRun : ℕ → ℕ → List RangeBuf → List RangeBuf
-lastRun lo hi cs = cond (ltb lo hi) (fresh lo (hi - lo) ∷ unmark hi cs) cs
 
 -- a chunk ends at f
 abbrev pub endsAt : List RangeBuf → ℕ → Bool

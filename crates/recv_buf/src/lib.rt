@@ -17,7 +17,7 @@ ghost use lib.Dec.{ltb, eqb};
 ghost use lib.ListN.{length, take, drop, getD};
 ghost use Rattle.refusal.specs.Rules.{M, known, isAt, isOther, withSizes, finWith, withBytes};
 ghost use Rattle.range_buf.specs.State.{Good as GoodChunk};
-ghost use Rattle.range_buf.specs.Rules.{start, avail, fresh, zeroBuf};
+ghost use Rattle.range_buf.specs.Rules.{start, end, avail, fresh, zeroBuf};
 ghost use Rattle.flowcontrol.specs.State.{Good as GoodFlow};
 ghost use Rattle.flowcontrol.specs.Rules.{next};
 ghost use Rattle.arena.specs.Rules.{kept, held};
@@ -26,7 +26,7 @@ ghost use Rattle.recv_buf.specs.Rules.{newRecv, created, badSize, overLi
 ghost use Rattle.recv_buf.specs.Rules.{withEnds, passesFinal, noRoom, filled, markedAt, chunksAfter, keptNew, written, writtenArena};
 ghost use Rattle.recv_buf.specs.Rules.{otherArena, takes, refusedTake, discarded, emitted, emittedOut, adjoining, readable};
 ghost use Rattle.recv_buf.specs.Rules.{isReady, commits, autotunes, flowBack, almostFull};
-ghost use Rattle.recv_buf.specs.Steps.{listed, pushed, pushedAll, pushedRun, movedTo, emptyRecv, badRoom, frameJudged, endsAt, lastRun, readyJudged, putFront, tookAt, Fits, Reached};
+ghost use Rattle.recv_buf.specs.Steps.{listed, pushed, movedTo, emptyRecv, badRoom, frameJudged, endsAt, readyJudged, putFront, tookAt, Fits, Reached};
 use flowcontrol::FlowControl;
 use range_buf::RangeBuf;
 use refusal::Answer;
@@ -510,18 +510,18 @@ impl RecvBuf {
         let mut i: usize = 0;
         while i < count {
             let chunk = self.data[i];
-            let start = chunk.off();
-            if hi <= start {
-                return self.before_rest(next, i, lo, hi);
-            }
-            // One entry more: the run before the chunk, if there is one, else the chunk.
+            let stop = refusal::least(chunk.off(), hi);
             let at = next.count;
             next.count = at + 1;
-            if lo < start {
+            if lo < stop {
                 if at < 64 {
-                    next.data[at] = chunk_of(lo, start - lo);
+                    next.data[at] = chunk_of(lo, stop - lo);
                 }
-                lo = start;
+                // An empty chunk where the last run ends goes.
+                if is_mark(chunk, hi) {
+                    i += 1;
+                }
+                lo = stop;
             } else {
                 if at < 64 {
                     next.data[at] = chunk;
@@ -530,24 +530,14 @@ impl RecvBuf {
                 i += 1;
             }
         }
-        next.run(lo, hi)
-    }
-
-    // The last run, and the chunks behind it: an empty one where the run ends goes.
-    fn before_rest(self, front: Entries, i: usize, lo: u64, hi: u64) -> Entries
-        requires { ⌜ Good self ⌝ }
-        requires { ⌜ (i < self .count) × (front .count ≤ 199) × (hi ≤ M) ⌝ }
-        ensures { λ r. ⌜ r ≡ pushedAll front (lastRun lo hi (drop i (viewOf self .chunks))) ⌝ }
-    {
-        if hi <= lo {
-            return self.with_rest(front, i);
+        if lo < hi {
+            let at = next.count;
+            next.count = at + 1;
+            if at < 64 {
+                next.data[at] = chunk_of(lo, hi - lo);
+            }
         }
-        let next = front.run(lo, hi);
-        let chunk = self.data[i];
-        if chunk.max_off() == hi {
-            return self.with_rest(next, i + 1);
-        }
-        self.with_rest(next, i)
+        next
     }
 
     // Keeps the frame's bytes that are new: those at or above `off` that no chunk holds, run by run.
@@ -711,29 +701,17 @@ impl RecvBuf {
         ensures { λ r. ⌜ r ≡ listed (putFront first (drop from (viewOf self .chunks))) ⌝ }
     {
         let count = self.count;
-        if from < count {
-            return self.with_rest(Entries::none().push(first), from + 1);
-        }
-        Entries::none()
-    }
-
-    // The chunks from index `from` on, behind the entries of `front`.
-    fn with_rest(self, front: Entries, from: usize) -> Entries
-        requires { ⌜ Good self ⌝ }
-        requires { ⌜ (from ≤ self .count) × (front .count ≤ 200) ⌝ }
-        ensures { λ r. ⌜ r ≡ pushedAll front (drop from (viewOf self .chunks)) ⌝ }
-    {
-        let count = self.count;
-        let mut next = front;
+        let mut next = Entries::none();
         let mut i = from;
         while i < count {
+            let chunk = self.data[i];
             let at = next.count;
-            if at < 64 {
-                let chunk = self.data[i];
-                next.data[at] = chunk;
-            }
+            next.data[at] = chunk;
             next.count = at + 1;
             i += 1;
+        }
+        if from < count {
+            next.data[0] = first;
         }
         next
     }
@@ -886,17 +864,6 @@ impl Entries {
             count: at + 1,
         }
     }
-
-    // The bytes from `lo` to before `hi` as one entry more, if there are any.
-    fn run(self, lo: u64, hi: u64) -> Entries
-        requires { ⌜ (self .count < 1000) × (hi ≤ M) ⌝ }
-        ensures { λ r. ⌜ r ≡ pushedRun self lo hi ⌝ }
-    {
-        if lo < hi {
-            return self.push(chunk_of(lo, hi - lo));
-        }
-        self
-    }
 }
 
 // A buffer that saw nothing, for an arena of `all` bytes.
@@ -955,6 +922,17 @@ fn mark_of(drain: bool, size: u64) -> Entries
         return Entries::none();
     }
     Entries::none().push(chunk_of(size, 0))
+}
+
+// An empty chunk at `at`?
+fn is_mark(chunk: RangeBuf, at: u64) -> bool
+    requires { ⌜ GoodChunk chunk ⌝ }
+    ensures { λ r. ⌜ r ≡ (eqb (start chunk) at && eqb (end chunk) at) ⌝ }
+{
+    if chunk.off() == at {
+        return chunk.max_off() == at;
+    }
+    false
 }
 
 // A frame without bytes or mark?
