@@ -12,11 +12,12 @@ use Rattle.range_buf.specs.declared.RangeBuf.{RangeBuf}
 use Rattle.range_buf.specs.Rules.{start, end, fresh, zeroBuf}
 use Rattle.recv_buf.specs.declared.RecvBuf.{RecvBuf}
 use Rattle.recv_buf.specs.declared.Entries.{Entries}
-use Rattle.recv_buf.specs.State.{viewOf, Good}
+use Rattle.recv_buf.specs.State.{viewOf, Chain, Within, Good}
 use Rattle.recv_buf.specs.Rules.{run, filled, markedAt}
 use Rattle.recv_buf.specs.Steps.{listed, pushed, pushedAll, endsAt}
 use Rattle.recv_buf.proofs.Good.{chunks-length, table, next, done, chain-at}
-use Rattle.recv_buf.proofs.Pushing.{stored, push-all}
+use Rattle.recv_buf.proofs.Lists.{within-weaken}
+use Rattle.recv_buf.proofs.Pushing.{stored, push-all, listed-count}
 
 -- ---- the chunks of a buffer, as they stand
 
@@ -87,28 +88,50 @@ module _ (c : RangeBuf) (cs : List RangeBuf) (lo hi stop : ℕ) (stops : stop �
       let h : hi ≤ lo = omega (arith, stops) in
       rw (filled-none cs (max lo (end c)) hi (omega arith), le-leb hi (start c) le, le-ltb lo hi h))
 
+-- no chunk ends above lo: the bytes come behind them all
+filled-behind : (cs : List RangeBuf) (low lo hi : ℕ) → Chain low cs → Within lo cs → filled cs lo hi ≡ cs ++ run lo hi []
+filled-behind [] low lo hi k w = refl
+filled-behind (c ∷ cs) low lo hi k w =
+    let m : max lo (end c) ≡ lo = omega (arith, w .0) in
+    filled-chunk c cs lo hi (min (start c) hi) refl (omega (arith, w .0, k .1))
+    ∙ rw m (ap (λ (l : List RangeBuf). c ∷ l) (filled-behind cs (end c) lo hi (k .2) (w .1)))
+
 -- ---- the loop
 
 -- the entries of the first i chunks and of the runs before them stand: to list the rest from here gives the whole
-pub record Filling (b : RecvBuf) (hi : ℕ) (t₀ : Entries) (from : ℕ) (t : Entries) (lo i : ℕ) : Type 0 where
+pub record Filling (b : RecvBuf) (hi from : ℕ) (t : Entries) (lo i : ℕ) : Type 0 where
   pub low : i ≤ b .count
   -- two for each chunk, and one for the run before the next, once that is listed
   pub size : t .count ≤ 2 * i + 1
   pub spare : lo < start (getD (b .«data») i zeroBuf) → lo < hi → t .count ≤ 2 * i
-  pub rest : pushedAll t (filled (drop i (viewOf b .chunks)) lo hi) ≡ pushedAll t₀ (filled (viewOf b .chunks) from hi)
+  pub rest : pushedAll t (filled (drop i (viewOf b .chunks)) lo hi) ≡ listed (filled (viewOf b .chunks) from hi)
 
-module _ (b : RecvBuf) (g : Good b) (hi : ℕ) (t₀ : Entries) (none : t₀ ≡ listed []) (from : ℕ) where
-  pub fills-begin : Filling b hi t₀ from t₀ from 0
-  unfolding listed
-  fills-begin = record { low = omega arith; size = rw none (omega arith); spare = λ _ _. rw none (omega arith); rest = refl }
+module _ (b : RecvBuf) (g : Good b) (hi from : ℕ) where
+  -- from the first chunk on
+  pub fills-begin : (t : Entries) → t ≡ listed [] → Filling b hi from t from 0
+  fills-begin t e =
+      let n : t .count ≡ 0 = listed-count t [] e in
+      record { low = omega arith; size = omega (arith, n); spare = λ _ _. omega (arith, n); rest = rw e (push-all [] (filled (viewOf b .chunks) from hi)) }
 
-  module _ (t : Entries) (lo i : ℕ) (f : Filling b hi t₀ from t lo i) where
+  -- behind them all
+  pub fills-behind : (t : Entries) → t ≡ listed (viewOf b .chunks) → b .len ≤ from → Filling b hi from t from (b .count)
+  fills-behind t e h =
+      let n : t .count ≡ b .count = listed-count t (viewOf b .chunks) e ∙ chunks-length b g in
+      record {
+        low = omega arith;
+        size = omega (arith, n);
+        spare = λ _ _. omega (arith, n);
+        rest =
+            ap (λ (l : List RangeBuf). pushedAll t (filled l from hi)) (done b g (b .count) (omega arith))
+            ∙ ap (λ (x : Entries). pushedAll x (run from hi [])) e
+            ∙ push-all (viewOf b .chunks) (run from hi [])
+            ∙ ap listed (sym (filled-behind (viewOf b .chunks) (b .off) from hi (g .facts .chain) (within-weaken (b .len) from (viewOf b .chunks) h (g .facts .within))));
+      }
+
+  module _ (t : Entries) (lo i : ℕ) (f : Filling b hi from t lo i) where
     -- behind the last chunk: what is left of the bytes is one run
     whole : b .count ≤ i → pushedAll t (run lo hi []) ≡ listed (filled (viewOf b .chunks) from hi)
-    whole h =
-        ap (λ (l : List RangeBuf). pushedAll t (filled l lo hi)) (sym (done b g i h))
-        ∙ f .rest
-        ∙ rw none (push-all [] (filled (viewOf b .chunks) from hi))
+    whole h = ap (λ (l : List RangeBuf). pushedAll t (filled l lo hi)) (sym (done b g i h)) ∙ f .rest
 
     pub fills-last : b .count ≤ i → lo < hi → pushed t (fresh lo (hi - lo)) ≡ listed (filled (viewOf b .chunks) from hi)
     fills-last h l = rw (lt-ltb lo hi l) at (whole h)
@@ -125,11 +148,11 @@ module _ (b : RecvBuf) (g : Good b) (hi : ℕ) (t₀ : Entries) (none : t₀ ≡
       cs = drop (i + 1) (viewOf b .chunks)
 
       listed-more : (e : RangeBuf) (l : List RangeBuf) (k : ℕ) → filled (c ∷ cs) lo hi ≡ e ∷ filled l k hi
-          → pushedAll (pushed t e) (filled l k hi) ≡ pushedAll t₀ (filled (viewOf b .chunks) from hi)
+          → pushedAll (pushed t e) (filled l k hi) ≡ listed (filled (viewOf b .chunks) from hi)
       listed-more e l k p = ap (pushedAll t) (sym p) ∙ ap (λ (z : List RangeBuf). pushedAll t (filled z lo hi)) (sym (next b g i lt)) ∙ f .rest
 
       module _ (l : lo < stop) where
-        pub fills-run : (eqb (start c) hi && eqb (end c) hi) ≡ false → Filling b hi t₀ from (pushed t (fresh lo (stop - lo))) stop i
+        pub fills-run : (eqb (start c) hi && eqb (end c) hi) ≡ false → Filling b hi from (pushed t (fresh lo (stop - lo))) stop i
         unfolding pushed
         fills-run n = record {
           low = f .low;
@@ -140,7 +163,7 @@ module _ (b : RecvBuf) (g : Good b) (hi : ℕ) (t₀ : Entries) (none : t₀ ≡
               ∙ listed-more (fresh lo (stop - lo)) (c ∷ cs) stop (filled-run c cs lo hi stop stops (chain-at b g i lt .1) l n);
         }
 
-        pub fills-mark : (eqb (start c) hi && eqb (end c) hi) ≡ true → Filling b hi t₀ from (pushed t (fresh lo (stop - lo))) stop (i + 1)
+        pub fills-mark : (eqb (start c) hi && eqb (end c) hi) ≡ true → Filling b hi from (pushed t (fresh lo (stop - lo))) stop (i + 1)
         unfolding pushed
         fills-mark m = record {
           low = omega (arith, lt);
@@ -149,7 +172,7 @@ module _ (b : RecvBuf) (g : Good b) (hi : ℕ) (t₀ : Entries) (none : t₀ ≡
           rest = listed-more (fresh lo (stop - lo)) cs stop (filled-mark c cs lo hi stop stops l m);
         }
 
-      pub fills-chunk : stop ≤ lo → Filling b hi t₀ from (pushed t c) (max lo (end c)) (i + 1)
+      pub fills-chunk : stop ≤ lo → Filling b hi from (pushed t c) (max lo (end c)) (i + 1)
       unfolding pushed
       fills-chunk l = record {
         low = omega (arith, lt);

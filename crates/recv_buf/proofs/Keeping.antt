@@ -18,7 +18,7 @@ use Rattle.recv_buf.specs.declared.RecvBuf.{RecvBuf}
 use Rattle.recv_buf.specs.State.{Recv, viewOf, Chain, Good}
 use Rattle.recv_buf.specs.Rules.{holds, keptNew}
 use Rattle.recv_buf.proofs.Good.{next, done, chain-at}
-use Rattle.recv_buf.proofs.Lists.{held-not, chain-held}
+use Rattle.recv_buf.proofs.Lists.{held-not, chain-held, within-held}
 
 -- the byte of offset q is new
 abbrev pub isNew : Recv → ℕ → Bool
@@ -103,6 +103,19 @@ module _ (b : RecvBuf) (g : Good b) (s : ℕ) (input ar₀ : List ℕ) where
             (λ q x y. rw (lt-leb (b .off) q (omega arith)))
             ∙ rw e);
       }
+
+  -- behind all chunks
+  pub keeps-behind : b .len ≤ max s (b .off) → Keeping b s input ar₀ ar₀ (max s (b .off)) (b .count)
+  keeps-behind h = record {
+    low = omega arith;
+    above = omega arith;
+    from-off = omega arith;
+    size = refl;
+    others = λ q x.
+        held-not (viewOf b .chunks) q (λ y. omega (arith, within-held (b .len) (viewOf b .chunks) q (g .facts .within) y))
+        ∙ sym (ap (λ (l : List RangeBuf). holds l q) (done b g (b .count) (omega arith)));
+    rest = keeps-begin .rest;
+  }
 
   module _ (ar : List ℕ) (lo i : ℕ) (f : Keeping b s input ar₀ ar lo i) where
     -- the bytes up to hi that no chunk holds

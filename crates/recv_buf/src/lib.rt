@@ -508,6 +508,11 @@ impl RecvBuf {
         let mut next = Entries::none();
         let mut lo = from;
         let mut i: usize = 0;
+        // Behind all that was seen there is no chunk to pass.
+        if self.len <= from {
+            next = self.entries();
+            i = count;
+        }
         while i < count {
             let chunk = self.data[i];
             let stop = refusal::least(chunk.off(), hi);
@@ -550,6 +555,9 @@ impl RecvBuf {
         let count = self.count;
         let mut lo = refusal::most(off, self.off);
         let mut i: usize = 0;
+        if self.len <= lo {
+            i = count;
+        }
         while i < count {
             let chunk = self.data[i];
             let hi = refusal::least(chunk.off(), end);

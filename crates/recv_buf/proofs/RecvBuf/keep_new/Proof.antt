@@ -1,4 +1,5 @@
 -- `RecvBuf::keep_new` meets its contract. The invariant, `Keeping`: to keep what is new from here on gives the whole. Assumes nothing.
+use mathlib.Core.Logic.{⊎-elim}
 use mathlib.Core.Path.{_≡_, ap, _∙_}
 use Prim.Native.Nat.{ℕ, _+_, _-_, _≤_, min}
 use borrow.Author.Needs.{needs}
@@ -7,7 +8,7 @@ use Rattle.refusal.specs.Rules.{M}
 use Rattle.range_buf.specs.Rules.{start, end, zeroBuf}
 use Rattle.arena.proofs.Laws.{length-kept}
 use Rattle.recv_buf.proofs.Good.{few, chunk-good}
-use Rattle.recv_buf.proofs.Keeping.{Keeping, keeps-begin, keeps-end, keeps-more}
+use Rattle.recv_buf.proofs.Keeping.{Keeping, keeps-begin, keeps-behind, keeps-end, keeps-more}
 use Rattle.recv_buf.proofs.RecvBuf.keep_new.Statement.{statement}
 use Rattle.recv_buf.proofs.RecvBuf.keep_new.Tie as tie
 
@@ -25,8 +26,15 @@ most-requires c κs = search needs
 
 loop-holds : tie.Need-loop-holds Inv-loop μ-loop
 loop-holds c =
-    let a = c .before .before .before in
-    (few (a .args .t1) (a .pre .0), rw (c .most .ensures .0) (keeps-begin (a .args .t1) (a .pre .0) (a .args .off) (a .args .input .now) (a .args .arena .now)))
+    let m = c .before in
+    let a = m .before .before .before in
+    let b = a .args .t1 in
+    let k : Keeping b (a .args .off) (a .args .input .now) (a .args .arena .now) (a .args .arena .now) (m .most .result) (c .if1 .i) =
+    ⊎-elim
+    (λ w. rw (w .1, m .most .ensures .0) (keeps-behind b (a .pre .0) (a .args .off) (a .args .input .now) (a .args .arena .now) (rw (m .most .ensures .0) at (w .0 .taken))))
+    (λ w. rw (w .1, m .most .ensures .0) (keeps-begin b (a .pre .0) (a .args .off) (a .args .input .now) (a .args .arena .now)))
+    (c .if1 .came) in
+    (few b (a .pre .0), k)
 
 mul-chunk : tie.Need-mul-chunk Inv-loop μ-loop
 mul-chunk c = search needs
@@ -36,8 +44,8 @@ element-copy-out-chunk c = search needs
 
 off-requires : tie.Need-off-requires Inv-loop μ-loop
 off-requires c κs =
-    let l = c .before .before in
-    let a = l .before .before .before .before in
+    let l = c .before .before .before in
+    let a = l .before .before .before .before .before in
     chunk-good (a .args .t1) (a .pre .0) (l .loop .i) (search needs)
 
 least-requires : tie.Need-least-requires Inv-loop μ-loop
@@ -45,13 +53,13 @@ least-requires c κs = search needs
 
 keep-run-requires : tie.Need-keep-run-requires Inv-loop μ-loop
 keep-run-requires c κs =
-    let l = c .before .before .before .before .before in
+    let l = c .before .before .before .before .before .before in
     (l .loop .inv .1 .above, c .before .least .ensures .2)
 
 max-off-requires : tie.Need-max-off-requires Inv-loop μ-loop
 max-off-requires c κs =
-    let l = c .before .before .before .before .before .before .before .before in
-    let a = l .before .before .before .before in
+    let l = c .before .before .before .before .before .before .before .before .before in
+    let a = l .before .before .before .before .before in
     chunk-good (a .args .t1) (a .pre .0) (l .loop .i) (search needs)
 
 most-requires-2 : tie.Need-most-requires-2 Inv-loop μ-loop
@@ -68,8 +76,8 @@ loop-again c =
     let r = c .before .before .before .before in
     let h = r .before .before in
     let o = h .before in
-    let l = o .before .before .before in
-    let a = l .before .before .before .before in
+    let l = o .before .before .before .before in
+    let a = l .before .before .before .before .before in
     let hi : h .least .result ≡ min (start (getD (a .args .t1 .«data») (l .loop .i) zeroBuf)) (a .args .off + length (a .args .input .now)) =
     h .least .ensures .0 ∙ ap (λ (x : ℕ). min x (a .args .off + length (a .args .input .now))) (o .off .ensures) in (
       l .loop .inv .0,
@@ -88,7 +96,7 @@ same-length c =
 returns : tie.Need-returns Inv-loop μ-loop
 returns c =
     let l = c .before .before .before .before .before in
-    let a = l .before .before .before .before in
+    let a = l .before .before .before .before .before in
     c .before .before .keep-run2 .ensures
     ∙ keeps-end (a .args .t1) (a .pre .0) (a .args .off) (a .args .input .now) (a .args .arena .now) (l .loop .arena) (l .loop .lo) (l .loop .i) (l .loop .inv .1) (search needs)
 
