@@ -1,6 +1,6 @@
 -- The chunks after a frame, as the code lists them: entry by entry, from the lowest on. Assumes nothing.
 use mathlib.Core.Path.{_≡_, refl, sym, ap, _∙_}
-use mathlib.Core.Bool.{true, false, _&&_, false≢true}
+use mathlib.Core.Bool.{Bool, true, false, not, _&&_, false≢true}
 use mathlib.Core.List.{List, [], _∷_, _++_}
 use Prim.Native.Nat.{ℕ, _+_, _-_, _*_, _≤_, _<_, min, max}
 use native.Mathlib.Omega.{arith}
@@ -8,12 +8,13 @@ use borrow.Author.Tests.{lt-ltb, le-ltb, le-leb, lt-leb, eq-eqb, ne-eqb, eqb-tru
 use lib.Dec.{eqb}
 use lib.ListN.{drop, getD}
 use Rattle.tables.proofs.Tables.{cases, by-test}
+use Rattle.refusal.specs.Rules.{known}
 use Rattle.range_buf.specs.declared.RangeBuf.{RangeBuf}
 use Rattle.range_buf.specs.Rules.{start, end, fresh, zeroBuf}
 use Rattle.recv_buf.specs.declared.RecvBuf.{RecvBuf}
 use Rattle.recv_buf.specs.declared.Entries.{Entries}
-use Rattle.recv_buf.specs.State.{viewOf, Chain, Within, Good}
-use Rattle.recv_buf.specs.Rules.{run, filled, markedAt}
+use Rattle.recv_buf.specs.State.{Recv, viewOf, Chain, Within, Good}
+use Rattle.recv_buf.specs.Rules.{run, filled, markedAt, chunksAfter}
 use Rattle.recv_buf.specs.Steps.{listed, pushed, pushedAll, endsAt}
 use Rattle.recv_buf.proofs.Good.{chunks-length, table, next, done, chain-at}
 use Rattle.recv_buf.proofs.Lists.{within-weaken}
@@ -95,6 +96,25 @@ filled-behind (c ∷ cs) low lo hi k w =
     let m : max lo (end c) ≡ lo = omega (arith, w .0) in
     filled-chunk c cs lo hi (min (start c) hi) refl (omega (arith, w .0, k .1))
     ∙ rw m (ap (λ (l : List RangeBuf). c ∷ l) (filled-behind cs (end c) lo hi (k .2) (w .1)))
+
+-- ---- the chunks after a frame
+
+module _ (r : Recv) (s n : ℕ) (fin : Bool) where
+  -- a mark without bytes that is the first to set the final size
+  pub after-mark : (eqb n 0 && (not (known (r .fin)) && fin)) ≡ true → markedAt (r .chunks) s ≡ chunksAfter r s n fin
+  after-mark m =
+      by-test (eqb n 0) (λ y. let k : (not (known (r .fin)) && fin) ≡ true = rw y at m in rw (y, k))
+      (λ x. let t : false ≡ true = rw x at m in absurd (false≢true t))
+
+  -- any other frame; one without bytes fills nothing
+  pub after-bytes : (eqb n 0 && (not (known (r .fin)) && fin)) ≡ false → filled (r .chunks) (max s (r .off)) (s + n) ≡ chunksAfter r s n fin
+  after-bytes m =
+      by-test (eqb n 0)
+      (λ y.
+      let k : (not (known (r .fin)) && fin) ≡ false = rw y at m in
+      let z = eqb-true n 0 y in
+      filled-none (r .chunks) (max s (r .off)) (s + n) (omega (arith, z)) ∙ rw (y, k))
+      (λ x. rw x)
 
 -- ---- the loop
 

@@ -23,7 +23,7 @@ ghost use Rattle.flowcontrol.specs.Rules.{next};
 ghost use Rattle.arena.specs.Rules.{kept, held};
 ghost use Rattle.recv_buf.specs.State.{Good, viewOf, bufOf};
 ghost use Rattle.recv_buf.specs.Rules.{newRecv, created, badSize, overLimit, resetJudged, wasReset, resets, shuts};
-ghost use Rattle.recv_buf.specs.Rules.{withEnds, passesFinal, noRoom, filled, markedAt, chunksAfter, keptNew, written, writtenArena};
+ghost use Rattle.recv_buf.specs.Rules.{withEnds, passesFinal, noRoom, filled, markedAt, keptNew, written, writtenArena};
 ghost use Rattle.recv_buf.specs.Rules.{otherArena, takes, refusedTake, discarded, emitted, emittedOut, adjoining, readable};
 ghost use Rattle.recv_buf.specs.Rules.{isReady, commits, autotunes, flowBack, almostFull};
 ghost use Rattle.recv_buf.specs.Steps.{listed, pushed, movedTo, emptyRecv, badRoom, frameJudged, endsAt, readyJudged, putFront, tookAt, Fits, Reached};
@@ -143,7 +143,11 @@ impl RecvBuf {
                 buf: self.passed_over(off + n, fin),
             };
         }
-        let next = self.chunks_after(off, n, fin);
+        let mut next = self.filled(refusal::most(off, self.off), off + n);
+        let size = self.fin_off;
+        if sets_first(n, size, fin) {
+            next = self.marked_at(off);
+        }
         if 64 < next.count {
             return Outcome {
                 answer: Answer::Refused(Refusal::TableFull),
@@ -450,23 +454,6 @@ impl RecvBuf {
         let known = self.fin_off;
         let size = fin_with(known, end, fin);
         self.moved_to(next, self.off, top, size)
-    }
-
-    // The chunks after an accepted frame: each run that no chunk holds becomes one; a frame without bytes leaves an empty one only if it
-    // is the first to set the final size.
-    fn chunks_after(self, off: u64, n: u64, fin: bool) -> Entries
-        requires { ⌜ Good self ⌝ }
-        requires { ⌜ off + n ≤ M ⌝ }
-        ensures { λ r. ⌜ r ≡ listed (chunksAfter (viewOf self) off n fin) ⌝ }
-    {
-        if 0 < n {
-            return self.filled(refusal::most(off, self.off), off + n);
-        }
-        let size = self.fin_off;
-        if sets_first(size, fin) {
-            return self.marked_at(off);
-        }
-        self.entries()
     }
 
     // An empty chunk at `f`, unless a chunk ends there.
@@ -989,10 +976,13 @@ fn marks_other(f: u64, end: u64, fin: bool) -> bool
     false
 }
 
-// A mark where no final size is known?
-fn sets_first(size: OptionU64, fin: bool) -> bool
-    ensures { λ r. ⌜ r ≡ (not (known size) && fin) ⌝ }
+// A mark without bytes where no final size is known?
+fn sets_first(n: u64, size: OptionU64, fin: bool) -> bool
+    ensures { λ r. ⌜ r ≡ (eqb n 0 && (not (known size) && fin)) ⌝ }
 {
+    if 0 < n {
+        return false;
+    }
     if size.is_known() {
         return false;
     }

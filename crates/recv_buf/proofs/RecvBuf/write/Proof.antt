@@ -1,7 +1,8 @@
 -- `RecvBuf::write` meets its contract. Assumes nothing.
-use mathlib.Core.Path.{_≡_, sym, _∙_}
+use mathlib.Core.Logic.{⊎-elim}
+use mathlib.Core.Path.{_≡_, sym, ap, _∙_}
 use mathlib.Core.Bool.{false, not, _&&_}
-use Prim.Native.Nat.{_+_, _≤_}
+use Prim.Native.Nat.{ℕ, _+_, _≤_}
 use native.Mathlib.Omega.{arith}
 use borrow.Author.Needs.{needs}
 use lib.Dec.{eqb}
@@ -9,8 +10,9 @@ use lib.ListN.{length}
 use Rattle.refusal.specs.Rules.{M}
 use Rattle.refusal.specs.declared.Answer.the-variants.{Done, Refused}
 use Rattle.recv_buf.specs.State.{viewOf}
-use Rattle.recv_buf.specs.Rules.{taken}
-use Rattle.recv_buf.specs.Steps.{frameJudged}
+use Rattle.recv_buf.specs.Rules.{filled, chunksAfter, taken}
+use Rattle.recv_buf.specs.Steps.{listed, frameJudged}
+use Rattle.recv_buf.proofs.Filling.{after-mark, after-bytes}
 use Rattle.recv_buf.proofs.Pushing.{listed-count}
 use Rattle.recv_buf.proofs.Writing.{frame-in, write-refused, write-nothing, write-passed, write-full, write-done}
 use Rattle.recv_buf.proofs.RecvBuf.write.Statement.{statement}
@@ -27,6 +29,21 @@ within c =
 
 some : (c : tie.Else1) → let a = c .before .before .before .before .before .before .before .args in (eqb (length (a .input .now)) 0 && not (a .fin)) ≡ false
 some c = sym (c .before .is-nothing .ensures) ∙ c .if1 .left
+
+chunks : (j : tie.Joined3) → let a = j .before .before .before .before .before .before .before .before .before .before .before .before .args in
+    j .if3 .next ≡ listed (chunksAfter (viewOf (a .self)) (a .off) (length (a .input .now)) (a .fin))
+chunks j =
+    let f = j .before .before in
+    let a = f .before .before .before .before .before .before .before .before .before .before .args in
+    let r = viewOf (a .self) in
+    ⊎-elim
+    (λ w. w .2 ∙ w .1 .ensures ∙ ap listed (after-mark r (a .off) (length (a .input .now)) (a .fin) (sym (j .before .sets-first .ensures) ∙ w .0 .taken)))
+    (λ w.
+    w .1
+    ∙ f .filled .ensures
+    ∙ ap (λ (k : ℕ). listed (filled (r .chunks) k (a .off + length (a .input .now)))) (f .before .most .ensures .0)
+    ∙ ap listed (after-bytes r (a .off) (length (a .input .now)) (a .fin) (sym (j .before .sets-first .ensures) ∙ w .0 .left)))
+    (j .if3 .came)
 
 judge-frame-requires : tie.Need-judge-frame-requires
 judge-frame-requires c κs = search needs
@@ -65,22 +82,35 @@ returns-3 c =
     let a = e .before .before .before .before .before in
     write-passed (a .args .self) (a .pre) (a .args .arena .now) (a .args .off) (a .args .input .now) (a .args .fin) (accepted e) (some (c .before .before)) (c .before .if2 .taken) (c .passed-over .result) (c .passed-over .ensures)
 
-chunks-after-requires : tie.Need-chunks-after-requires
-chunks-after-requires c κs = let e = c .before .before .before in (e .before .before .before .before .before .pre, within e)
+most-requires : tie.Need-most-requires
+most-requires c κs = search needs
+
+add-filled : tie.Need-add-filled
+add-filled c = omega (arith, within (c .before .before .before .before))
+
+filled-requires : tie.Need-filled-requires
+filled-requires c κs = let e = c .before .before .before .before in (e .before .before .before .before .before .pre, within e)
+
+sets-first-requires : tie.Need-sets-first-requires
+sets-first-requires c κs = search needs
+
+marked-at-requires : tie.Need-marked-at-requires
+marked-at-requires c κs = let e = c .before .before .before .before .before .before .before in (e .before .before .before .before .before .pre, omega (arith, within e))
 
 returns-4 : tie.Need-returns-4
 returns-4 c =
-    let n = c .before .before in
-    let e = n .before .before .before .before in
+    let j = c .before .before in
+    let o = j .before .before .before .before in
+    let e = o .before .before .before in
     let a = e .before .before .before .before .before in
-    write-full (a .args .self) (a .pre) (a .args .arena .now) (a .args .off) (a .args .input .now) (a .args .fin) (accepted e) (some (n .before .before)) (n .before .if2 .left)
-    (rw (listed-count (n .chunks-after .result) _ (n .chunks-after .ensures)) at (c .if3 .taken))
+    write-full (a .args .self) (a .pre) (a .args .arena .now) (a .args .off) (a .args .input .now) (a .args .fin) (accepted e) (some (o .before)) (o .if2 .left)
+    (rw (listed-count (j .if3 .next) _ (chunks j)) at (c .if4 .taken))
 
 keep-new-requires : tie.Need-keep-new-requires
-keep-new-requires c κs = let e = c .before .before .before .before .before .before .before in (e .before .before .before .before .before .pre, within e)
+keep-new-requires c κs = let e = c .before .before .before .before .before .before .before .before .before .before in (e .before .before .before .before .before .pre, within e)
 
 add-grown : tie.Need-add-grown
-add-grown c = omega (arith, within (c .before .before .before .before .before .before .before .before .before .before))
+add-grown c = omega (arith, within (c .before .before .before .before .before .before .before .before .before .before .before .before .before))
 
 grown-requires : tie.Need-grown-requires
 grown-requires c κs = search needs
@@ -91,11 +121,12 @@ same-length c = search needs
 returns-5 : tie.Need-returns-5
 returns-5 c =
     let k = c .before .before .before in
-    let n = k .before .before .before .before in
-    let e = n .before .before .before .before in
+    let j = k .before .before .before .before in
+    let o = j .before .before .before .before in
+    let e = o .before .before .before in
     let a = e .before .before .before .before .before in
-    rw (c .grown .ensures) (write-done (a .args .self) (a .pre) (a .args .arena .now) (a .args .off) (a .args .input .now) (a .args .fin) (accepted e) (some (n .before .before)) (n .before .if2 .left)
-    (rw (listed-count (n .chunks-after .result) _ (n .chunks-after .ensures)) at (k .before .before .if3 .left)) (n .chunks-after .result) (n .chunks-after .ensures)
+    rw (c .grown .ensures) (write-done (a .args .self) (a .pre) (a .args .arena .now) (a .args .off) (a .args .input .now) (a .args .fin) (accepted e) (some (o .before)) (o .if2 .left)
+    (rw (listed-count (j .if3 .next) _ (chunks j)) at (k .before .before .if4 .left)) (j .if3 .next) (chunks j)
     (k .keep-new .last .1 .0) (k .keep-new .ensures))
 
 pub write-spec : {M : Type 1} → statement M
@@ -111,7 +142,11 @@ write-spec =
     add-passed-over
     passed-over-requires
     returns-3
-    chunks-after-requires
+    most-requires
+    add-filled
+    filled-requires
+    sets-first-requires
+    marked-at-requires
     returns-4
     keep-new-requires
     add-grown
