@@ -143,6 +143,7 @@ impl RecvBuf {
                 buf: self.passed_over(off + n, fin),
             };
         }
+        // A frame without bytes leaves an empty chunk only if it is the first to set the final size.
         let mut next = self.filled(refusal::most(off, self.off), off + n);
         let size = self.fin_off;
         if sets_first(n, size, fin) {
@@ -495,11 +496,12 @@ impl RecvBuf {
         let mut next = Entries::none();
         let mut lo = from;
         let mut i: usize = 0;
-        // Behind all that was seen there is no chunk to pass.
+        // Bytes behind all that was seen meet no chunk.
         if self.len <= from {
             next = self.entries();
             i = count;
         }
+        // One entry a turn: the run before the chunk, if there is one, else the chunk.
         while i < count {
             let chunk = self.data[i];
             let stop = refusal::least(chunk.off(), hi);
@@ -542,6 +544,7 @@ impl RecvBuf {
         let count = self.count;
         let mut lo = refusal::most(off, self.off);
         let mut i: usize = 0;
+        // Bytes behind all that was seen meet no chunk.
         if self.len <= lo {
             i = count;
         }

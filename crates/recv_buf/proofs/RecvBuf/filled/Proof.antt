@@ -1,17 +1,16 @@
 -- `RecvBuf::filled` meets its contract. The invariant, `Filling`: to list the rest from here gives the whole. Assumes nothing.
 use mathlib.Core.Logic.{⊎-elim}
 use mathlib.Core.Path.{_≡_, sym, ap, _∙_}
-use mathlib.Core.List.{[]}
 use Prim.Native.Nat.{_+_, _-_, _≤_}
 use native.Mathlib.Omega.{arith}
 use borrow.Author.Needs.{needs}
 use lib.ListN.{getD}
 use Rattle.refusal.specs.Rules.{M}
 use Rattle.range_buf.specs.Rules.{fresh, zeroBuf}
-use Rattle.recv_buf.specs.Rules.{run, taken}
-use Rattle.recv_buf.specs.Steps.{listed, pushed}
+use Rattle.recv_buf.specs.Rules.{taken}
+use Rattle.recv_buf.specs.Steps.{pushed}
 use Rattle.recv_buf.proofs.Filling.{Filling, fills-begin, fills-behind, fills-end, fills-last, fills-run, fills-mark, fills-chunk}
-use Rattle.recv_buf.proofs.Good.{few, next, chunk-good}
+use Rattle.recv_buf.proofs.Good.{few, chunk-good}
 use Rattle.recv_buf.proofs.Pushing.{store-in, store-past}
 use Rattle.recv_buf.proofs.RecvBuf.filled.Statement.{statement}
 use Rattle.recv_buf.proofs.RecvBuf.filled.Tie as tie
@@ -66,6 +65,18 @@ mul-t27 c = search needs
 element-set-from-next : tie.Need-element-set-from-next Inv-loop μ-loop
 element-set-from-next c = search needs
 
+-- where the arms of a run's store meet
+run-stored : (j : tie.Joined3 Inv-loop μ-loop) → let m = j .before .before in let l = m .before .before .before .before .before in
+    j .if3 .next ≡ pushed (l .loop .next) (fresh (l .loop .lo) (m .least .result - l .loop .lo))
+run-stored j =
+    let m = j .before .before in
+    let l = m .before .before .before .before .before in
+    let t = l .loop .next in
+    ⊎-elim
+    (λ w. w .2 ∙ store-in t (w .1 .result) (w .0 .taken) ∙ ap (pushed t) (w .1 .ensures))
+    (λ w. w .1 ∙ store-past t (fresh (l .loop .lo) (m .least .result - l .loop .lo)) (w .0 .left))
+    (j .if3 .came)
+
 is-mark-requires : tie.Need-is-mark-requires Inv-loop μ-loop
 is-mark-requires c κs =
     let l = c .before .before .before .before .before .before .before in
@@ -82,13 +93,9 @@ loop-again c =
     let j = c .before .before in
     let m = j .before .before in
     let l = m .before .before .before .before .before in
-    let a = l .before .before .before in
-    let t = l .loop .next in
-    let r = fresh (l .loop .lo) (m .least .result - l .loop .lo) in
-    let p : j .if3 .next ≡ pushed t r =
-    ⊎-elim (λ w. w .2 ∙ store-in t (w .1 .result) (w .0 .taken) ∙ ap (pushed t) (w .1 .ensures)) (λ w. w .1 ∙ store-past t r (w .0 .left)) (j .if3 .came) in (
+    let a = l .before .before .before in (
       l .loop .inv .0,
-      rw p (fills-mark (a .args .t1) (a .pre .0) (a .args .hi) (a .args .from) t (l .loop .lo) (l .loop .i) (l .loop .inv .1) (search needs) (m .least .result)
+      rw (run-stored j) (fills-mark (a .args .t1) (a .pre .0) (a .args .hi) (a .args .from) (l .loop .next) (l .loop .lo) (l .loop .i) (l .loop .inv .1) (search needs) (m .least .result)
           (rw (m .before .off .ensures) at (m .least .ensures .0)) (j .before .if2 .taken) (sym (c .before .is-mark .ensures) ∙ c .if4 .taken)),
     )
 
@@ -100,13 +107,9 @@ loop-again-2 c =
     let j = c .before .before in
     let m = j .before .before in
     let l = m .before .before .before .before .before in
-    let a = l .before .before .before in
-    let t = l .loop .next in
-    let r = fresh (l .loop .lo) (m .least .result - l .loop .lo) in
-    let p : j .if3 .next ≡ pushed t r =
-    ⊎-elim (λ w. w .2 ∙ store-in t (w .1 .result) (w .0 .taken) ∙ ap (pushed t) (w .1 .ensures)) (λ w. w .1 ∙ store-past t r (w .0 .left)) (j .if3 .came) in (
+    let a = l .before .before .before in (
       l .loop .inv .0,
-      rw p (fills-run (a .args .t1) (a .pre .0) (a .args .hi) (a .args .from) t (l .loop .lo) (l .loop .i) (l .loop .inv .1) (search needs) (m .least .result)
+      rw (run-stored j) (fills-run (a .args .t1) (a .pre .0) (a .args .hi) (a .args .from) (l .loop .next) (l .loop .lo) (l .loop .i) (l .loop .inv .1) (search needs) (m .least .result)
           (rw (m .before .off .ensures) at (m .least .ensures .0)) (j .before .if2 .taken) (sym (c .before .is-mark .ensures) ∙ c .if4 .left)),
     )
 

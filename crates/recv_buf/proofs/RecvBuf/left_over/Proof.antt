@@ -10,7 +10,7 @@ use Rattle.range_buf.specs.Rules.{zeroBuf}
 use Rattle.recv_buf.specs.declared.Entries.{Entries}
 use Rattle.recv_buf.specs.State.{viewOf}
 use Rattle.recv_buf.specs.Rules.{taken}
-use Rattle.recv_buf.specs.Steps.{listed, pushed, pushedAll}
+use Rattle.recv_buf.specs.Steps.{listed, pushedAll}
 use Rattle.recv_buf.proofs.Good.{few, next, done}
 use Rattle.recv_buf.proofs.Pushing.{store-in, push-all, front-listed, listed-count}
 use Rattle.recv_buf.proofs.RecvBuf.left_over.Statement.{statement}
