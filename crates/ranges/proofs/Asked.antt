@@ -36,10 +36,10 @@ not-single x (r ∷ (q ∷ rs)) h = refl
 -- the same of a good set's table
 module _ (s : RangeSet) (g : Good s) where
   pub last-in : 0 < s .count → lastOf (ranges s) ≡ endBefore (getD (s .inner) (s .count - 1) zeroRange)
-  last-in h = last-at (ranges s) (s .count) (ranges-length s g) h ∙ ap endBefore (entry s g (s .count - 1) (omega arith))
+  last-in h = last-at (ranges s) (s .count) (ranges-length s g) h ∙ ap endBefore (entry s g (s .count - 1))
 
   pub single-in : (x : Range) → s .count ≡ 1
       → isSingle x (ranges s) ≡ (eqb ((getD (s .inner) 0 zeroRange) .start) (x .start) && eqb ((getD (s .inner) 0 zeroRange) .end) (x .end))
   single-in x e =
       single-at x (ranges s) (ranges-length s g ∙ e)
-      ∙ ap (λ (r : Range). eqb (r .start) (x .start) && eqb (r .end) (x .end)) (entry s g 0 (omega arith))
+      ∙ ap (λ (r : Range). eqb (r .start) (x .start) && eqb (r .end) (x .end)) (entry s g 0)

@@ -4,16 +4,16 @@ use mathlib.Core.List.{List, [], _∷_}
 use Prim.Native.Nat.{ℕ, zero, suc, _+_, _≤_, _<_}
 use native.Mathlib.Omega.{arith}
 use lib.ListN.{length, drop, getD, length-drop}
+use Rattle.tables.specs.Lists.{tableOf}
 use Rattle.tables.proofs.Tables as tables
 use Rattle.ranges.specs.declared.Range.{Range}
 use Rattle.ranges.specs.declared.RangeSet.{RangeSet}
 use Rattle.ranges.specs.State.{Good, ranges, setOf, zeroRange, Sorted}
 
--- a table that was filled with the entries of l is the table of the set of l
-pub made : (cap n : ℕ) (inner l : List Range) → n ≡ length l → length inner ≡ 64 → length l ≤ 64
-    → ((k : ℕ) → k < 64 → getD inner k zeroRange ≡ getD l k zeroRange)
+-- the table of l, with its length, is the set of l
+pub made : (cap n : ℕ) (inner l : List Range) → n ≡ length l → inner ≡ tableOf zeroRange l
     → _≡_ {A = RangeSet} (record { inner = inner; count = n; capacity = cap }) (setOf cap l)
-made cap n inner l e m le h = λ j. record { inner = tables.filled-all inner l zeroRange m le h j; count = e j; capacity = cap }
+made cap n inner l e t = rw (e, t)
 
 module _ (s : RangeSet) (g : Good s) where
   pub inner-length : length (s .inner) ≡ 64
@@ -29,8 +29,9 @@ module _ (s : RangeSet) (g : Good s) where
   pub done : (i : ℕ) → s .count ≤ i → drop i (ranges s) ≡ []
   done = tables.done zeroRange (s .count) (s .inner) (g .table)
 
-  pub entry : (i : ℕ) → i < s .count → getD (ranges s) i zeroRange ≡ getD (s .inner) i zeroRange
-  entry = tables.entry zeroRange (s .count) (s .inner) (g .table)
+  -- the range at i; behind the ranges, both are zero
+  pub entry : (i : ℕ) → getD (ranges s) i zeroRange ≡ getD (s .inner) i zeroRange
+  entry = tables.entry-any zeroRange (s .count) (s .inner) (g .table)
 
   -- a good set is its capacity and its ranges
   pub is-set : s ≡ setOf (s .capacity) (ranges s)

@@ -306,37 +306,24 @@ impl RangeSet {
         self.join(low, x)
     }
 
-    // The entry at i once `x` stands in the place of the entries from a to before b.
-    fn spliced(self, a: usize, b: usize, x: Range, i: usize) -> Range
-        requires { ⌜ Good self ⌝ }
-        requires { ⌜ (a ≤ b) × (b ≤ self .count) × (i < 64) ⌝ }
-        ensures { λ r. ⌜ r ≡ getD (spliceAt a b x (ranges self)) i zeroRange ⌝ }
-    {
-        if i < a {
-            return self.inner[i];
-        }
-        if i == a {
-            return x;
-        }
-        let k = i - a - 1 + b;
-        let count = self.count;
-        if k < count {
-            return self.inner[k];
-        }
-        Range { start: 0, end: 0 }
-    }
-
-    // `x` in the place of the ranges from a to before b.
+    // `x` in the place of the ranges from a to before b. What was and stays unused is zero already.
     fn splice(self, a: usize, b: usize, x: Range) -> RangeSet
         requires { ⌜ Good self ⌝ }
         requires { ⌜ (a ≤ b) × (b ≤ self .count) × (self .count + 1 ≤ 64 + (b - a)) ⌝ }
         ensures { λ r. ⌜ r ≡ setOf (self .capacity) (spliceAt a b x (ranges self)) ⌝ }
     {
+        let count = self.count;
+        let end = if count < 64 { count + 1 } else { 64 };
         let mut inner = self.inner;
-        let mut i: usize = 0;
-        while i < 64 {
-            let r = self.spliced(a, b, x, i);
-            inner[i] = r;
+        inner[a] = x;
+        let mut i = a + 1;
+        while i < end {
+            let k = i - a - 1 + b;
+            if k < count {
+                inner[i] = self.inner[k];
+            } else {
+                inner[i] = Range { start: 0, end: 0 };
+            }
             i += 1;
         }
         RangeSet {
@@ -346,36 +333,22 @@ impl RangeSet {
         }
     }
 
-    // The entry at i once the k lowest are gone.
-    fn dropped(self, k: usize, i: usize) -> Range
-        requires { ⌜ Good self ⌝ }
-        requires { ⌜ (k ≤ self .count) × (i < 64) ⌝ }
-        ensures { λ r. ⌜ r ≡ getD (drop k (ranges self)) i zeroRange ⌝ }
-    {
-        let j = k + i;
-        let count = self.count;
-        if j < count {
-            return self.inner[j];
-        }
-        Range { start: 0, end: 0 }
-    }
-
     // The set without its k lowest ranges.
     fn drop_front(self, k: usize) -> RangeSet
         requires { ⌜ Good self ⌝ }
         requires { ⌜ k ≤ self .count ⌝ }
         ensures { λ r. ⌜ r ≡ setOf (self .capacity) (drop k (ranges self)) ⌝ }
     {
-        let mut inner = self.inner;
+        let left = self.count - k;
+        let mut inner = [Range { start: 0, end: 0 }; 64];
         let mut i: usize = 0;
-        while i < 64 {
-            let r = self.dropped(k, i);
-            inner[i] = r;
+        while i < left {
+            inner[i] = self.inner[k + i];
             i += 1;
         }
         RangeSet {
             inner: inner,
-            count: self.count - k,
+            count: left,
             capacity: self.capacity,
         }
     }

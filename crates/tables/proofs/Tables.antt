@@ -7,10 +7,10 @@ use Prim.Native.Nat.{ℕ, zero, suc, _+_, _-_, _≤_, _<_, zero-le, suc-le-suc}
 use native.Mathlib.Nat.{le-of-suc-le-suc, not-suc-le-zero}
 use native.Mathlib.Numerals.{add-one}
 use native.Mathlib.Omega.{arith}
-use borrow.Author.Count.{below-more}
+use borrow.Author.Count.{below-none, below-more}
 use borrow.Author.Tests.{ltb-true, ltb-false}
 use lib.Dec.{ltb}
-use lib.ListN.{length, take, drop, getD, set, replicate, drop-of-length-le, length-append, length-replicate, length-take, length-drop, List·getD-append}
+use lib.ListN.{length, take, drop, getD, set, replicate, drop-of-length-le, length-append, length-replicate, length-set, length-take, length-drop, List·getD-append, List·getD-eq-default}
 use lib.Seq.{drop-cons, getD-take, getD-drop, length-take-le, getD-set-same, getD-set-other, ext-getD, getD-at, getD-append-add, take-append-seam}
 use Rattle.tables.specs.Lists.{tableOf, takeWhile, spliceAt, Table}
 
@@ -102,6 +102,10 @@ module _ {A : Type 0} where
     pub entry : (i : ℕ) → i < n → getD (take n xs) i z ≡ getD xs i z
     entry i h = getD-take n xs i z h
 
+    -- behind the entries in use, both are zero
+    pub entry-any : (i : ℕ) → getD (take n xs) i z ≡ getD xs i z
+    entry-any i = sym (ap (λ (l : List A). getD l i z) (t .clear) ∙ getD-padded (take n xs) (64 - length (take n xs)) i z)
+
   -- ---- a fill: a table that a loop fills from the front with the entries of l
 
   -- one store more
@@ -140,3 +144,33 @@ module _ {A : Type 0} where
         ∙ getD-append-add (take a xs) (m ∷ drop b xs) (suc (i - a - 1)) d
         ∙ getD-drop b xs (i - a - 1) d
         ∙ ap (λ (k : ℕ). getD xs k d) (omega arith)
+
+-- ---- a fill that ends at n: the places below i hold the entries of l, and those from n on held them from the start
+
+pub record Filling {A : Type 0} (z : A) (l : List A) (n : ℕ) (xs : List A) (i : ℕ) : Type 0 where
+  pub long : length xs ≡ 64
+  pub front : (k : ℕ) → k < i → getD xs k z ≡ getD l k z
+  pub behind : (k : ℕ) → n ≤ k → getD xs k z ≡ getD l k z
+
+module _ {A : Type 0} (z : A) (l : List A) (n : ℕ) where
+  -- it starts from a table of which no more than n places are in use, or from one of zeros
+  pub fill-starts : (m : ℕ) (xs : List A) → Table z m xs → m ≤ n → length l ≤ n → Filling z l n xs 0
+  fill-starts m xs t h le =
+      record {
+        long = slots z m xs t;
+        front = below-none _;
+        behind = λ k b. sym (entry-any z m xs t k) ∙ List·getD-eq-default (take m xs) z {n = k} (rw (view-length z m xs t) (omega arith)) ∙ sym (List·getD-eq-default l z {n = k} (omega arith));
+      }
+
+  -- one store more
+  pub fill-more : (xs : List A) (i : ℕ) (v : A) → Filling z l n xs i → i < n → i < 64 → v ≡ getD l i z → Filling z l n (set xs i v) (i + 1)
+  fill-more xs i v f less h e =
+      record {
+        long = length-set xs i v ∙ f .long;
+        front = filled-more xs l i v z (rw (f .long) h) e (f .front);
+        behind = λ k b. getD-set-other xs i k v z (omega arith) ∙ f .behind k b;
+      }
+
+  -- it is full: the table of l
+  pub fill-ends : (xs : List A) (i : ℕ) → Filling z l n xs i → n ≤ i → length l ≤ 64 → xs ≡ tableOf z l
+  fill-ends xs i f h le = filled-all xs l z (f .long) le (λ k lt. cases k i (f .front k) (λ b. f .behind k (omega arith)))

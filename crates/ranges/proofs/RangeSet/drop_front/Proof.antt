@@ -1,31 +1,43 @@
 -- `RangeSet::drop_front` meets its contract. The invariant: the first i places of the new table are filled. Assumes nothing.
-use Prim.Native.Nat.{ℕ, _≤_, _-_, _<_}
+use Prim.Native.Nat.{_≤_, _-_, _+_}
 use native.Mathlib.Omega.{arith}
-use mathlib.Core.Path.{_≡_, sym, ap}
+use mathlib.Core.Path.{_≡_, sym, _∙_}
+use mathlib.Core.List.{[]}
 use borrow.Author.Needs.{needs}
-use borrow.Author.Count.{below-none}
-use lib.ListN.{drop, length, getD, length-set, length-drop}
+use lib.ListN.{drop, length, length-drop}
+use lib.Seq.{getD-drop}
 use Rattle.ranges.specs.State.{ranges, zeroRange}
-use Rattle.tables.proofs.Tables.{filled-more}
-use Rattle.ranges.proofs.Good.{made, inner-length, ranges-length}
+use Rattle.tables.proofs.Tables.{Filling, table-of, fill-starts, fill-more, fill-ends}
+use Rattle.ranges.proofs.Good.{made, entry, ranges-length}
 use Rattle.ranges.proofs.RangeSet.drop_front.Statement.{statement}
 use Rattle.ranges.proofs.RangeSet.drop_front.Tie as tie
 
 abbrev Inv-loop : tie.InvT-loop
-Inv-loop self k inner₀ i₀ inner i =
-    (i ≤ 64) × (length inner ≡ 64) × ((j : ℕ) → j < i → getD inner j zeroRange ≡ getD (drop k (ranges self)) j zeroRange)
+Inv-loop k self left inner₀ i₀ inner i = (i ≤ left) × Filling zeroRange (drop k (ranges self)) left inner i
 
 abbrev μ-loop : tie.MeasureT-loop
-μ-loop self k inner₀ i₀ inner i = 64 - i
+μ-loop k self left inner₀ i₀ inner i = left - i
+
+sub-left : tie.Need-sub-left Inv-loop μ-loop
+sub-left c = search needs
 
 loop-holds : tie.Need-loop-holds Inv-loop μ-loop
-loop-holds c = (search needs, inner-length (c .before .args .self) (c .before .pre .0), below-none _)
+loop-holds c =
+    let s = c .args .t1 in
+    let m : length (drop (c .args .k) (ranges s)) ≡ s .count - c .args .k = simp (length-drop, ranges-length s (c .pre .0)) in
+    (search needs, fill-starts zeroRange (drop (c .args .k) (ranges s)) (s .count - c .args .k) 0 _ (table-of zeroRange [] (omega arith)) (omega arith) (omega arith))
 
-dropped-requires : tie.Need-dropped-requires Inv-loop μ-loop
-dropped-requires c κs = search needs
+add-inner : tie.Need-add-inner Inv-loop μ-loop
+add-inner c = search needs
 
 mul-inner : tie.Need-mul-inner Inv-loop μ-loop
 mul-inner c = search needs
+
+element-copy-out-inner : tie.Need-element-copy-out-inner Inv-loop μ-loop
+element-copy-out-inner c = search needs
+
+mul-inner-2 : tie.Need-mul-inner-2 Inv-loop μ-loop
+mul-inner-2 c = search needs
 
 array-set-from-inner : tie.Need-array-set-from-inner Inv-loop μ-loop
 array-set-from-inner c = search needs
@@ -39,22 +51,20 @@ loop-less c = search needs
 loop-again : tie.Need-loop-again Inv-loop μ-loop
 loop-again c =
     let a = c .before .before in
-    let t = a .before .before .args in (
+    let s = a .before .args .t1 in
+    let k = a .before .args .k in (
       search needs,
-      simp length-set (a .loop .inv .1),
-      filled-more (a .loop .inner) (drop (t .k) (ranges (t .self))) (a .loop .i) (c .dropped .result) zeroRange (search needs) (c .dropped .ensures) (a .loop .inv .2),
+      fill-more zeroRange (drop k (ranges s)) (s .count - k) (a .loop .inner) (a .loop .i) _ (a .loop .inv .1) (search needs) (search needs)
+          (sym (getD-drop k (ranges s) (a .loop .i) zeroRange ∙ entry s (a .before .pre .0) (k + a .loop .i))),
     )
-
-sub-t11 : tie.Need-sub-t11 Inv-loop μ-loop
-sub-t11 c = search needs
 
 returns : tie.Need-returns Inv-loop μ-loop
 returns c =
-    let s = c .before .before .before .before in
-    let t = s .args in
-    let m : length (drop (t .k) (ranges (t .self))) ≡ t .self .count - t .k = simp (length-drop, ranges-length (t .self) (s .pre .0)) in
-    made (t .self .capacity) _ (c .before .before .loop .inner) (drop (t .k) (ranges (t .self))) (sym m) (c .before .before .loop .inv .1) (omega (arith, m))
-    (λ k h. c .before .before .loop .inv .2 k (omega arith))
+    let s = c .before .before .args .t1 in
+    let k = c .before .before .args .k in
+    let m : length (drop k (ranges s)) ≡ s .count - k = simp (length-drop, ranges-length s (c .before .before .pre .0)) in
+    made (s .capacity) (s .count - k) (c .before .loop .inner) (drop k (ranges s)) (sym m)
+    (fill-ends zeroRange (drop k (ranges s)) (s .count - k) (c .before .loop .inner) (c .before .loop .i) (c .before .loop .inv .1) (search needs) (omega (arith, m, c .before .before .pre .0 .table .few)))
 
 pub drop-front-spec : {M : Type 1} → statement M
 drop-front-spec =
@@ -62,12 +72,14 @@ drop-front-spec =
     (tie.spec
     Inv-loop
     μ-loop
+    sub-left
     loop-holds
-    dropped-requires
+    add-inner
     mul-inner
+    element-copy-out-inner
+    mul-inner-2
     array-set-from-inner
     add-i
     loop-less
     loop-again
-    sub-t11
     returns)

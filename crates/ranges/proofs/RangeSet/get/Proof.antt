@@ -17,7 +17,7 @@ element-copy-out-t9 c = search needs
 returns-2 : tie.Need-returns-2
 returns-2 c =
     let a = c .before .before in
-    rw (ranges-length (a .args .t1) (a .pre), lt-ltb (a .args .i) (a .args .t1 .count) (c .before .if1 .left), entry (a .args .t1) (a .pre) (a .args .i) (c .before .if1 .left))
+    rw (ranges-length (a .args .t1) (a .pre), lt-ltb (a .args .i) (a .args .t1 .count) (c .before .if1 .left), entry (a .args .t1) (a .pre) (a .args .i))
 
 pub get-spec : {M : Type 1} → statement M
 get-spec = tie.close (tie.spec returns mul-t6 element-copy-out-t9 returns-2)

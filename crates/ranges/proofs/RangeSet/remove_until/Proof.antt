@@ -56,7 +56,7 @@ add-t16 c =
     let k = c .before .before .before .before .gone in
     let lt : goneCount (a .args .largest) (ranges s) < length (ranges s) = omega (arith, k .ensures, c .before .before .before .if1 .left, ranges-length s (a .pre)) in
     let f : goes (a .args .largest) (getD (s .inner) (k .result) zeroRange) ≡ false =
-    rw (← entry s (a .pre) (k .result) (c .before .before .before .if1 .left), k .ensures) (front-stops (goes (a .args .largest)) (ranges s) zeroRange lt) in
+    rw (← entry s (a .pre) (k .result), k .ensures) (front-stops (goes (a .args .largest)) (ranges s) zeroRange lt) in
     omega (arith, stays (a .args .largest) (getD (s .inner) (k .result) zeroRange) f (c .if2 .left), c .before .struct-known .given)
 
 add-splice : tie.Need-add-splice
