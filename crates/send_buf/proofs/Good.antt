@@ -1,10 +1,9 @@
 -- What a good buffer is: the laws by which the code goes from the struct to the numbers and lists, and back. Assumes nothing.
-use mathlib.Core.Path.{_≡_, refl, sym, ap, _∙_}
+use mathlib.Core.Path.{_≡_, sym, ap}
 use mathlib.Core.List.{List, [], _∷_}
-use Prim.Native.Nat.{ℕ, zero, suc, _+_, _-_, _≤_, _<_}
+use Prim.Native.Nat.{ℕ, zero, suc, _+_, _≤_, _<_}
 use native.Mathlib.Omega.{arith}
-use lib.ListN.{length, take, drop, getD, replicate, List·getD-eq-default}
-use lib.Seq.{getD-append-add}
+use lib.ListN.{length, take, drop, getD}
 use Rattle.tables.specs.Lists.{Table, tableOf}
 use Rattle.tables.proofs.Tables as tables
 use Rattle.range_buf.specs.declared.RangeBuf.{RangeBuf}
@@ -55,11 +54,6 @@ each-chunk (c ∷ l) lo hi (suc i) a h =
     let r = each-chunk l (end c) hi i (a .3) (omega arith) in
     record { low = omega (arith, a .0, r .low); high = r .high; some = r .some; eats = r .eats }
 
-all-zero : (m j : ℕ) → getD (replicate m zeroBuf) j zeroBuf ≡ zeroBuf
-all-zero zero j = refl
-all-zero (suc m) zero = refl
-all-zero (suc m) (suc j) = all-zero m j
-
 module _ (b : SendBuf) (g : Good b) where
   pub count-is : b .count ≡ length (take (b .count) (b .«data»))
   unfolding bufOf
@@ -88,26 +82,13 @@ module _ (b : SendBuf) (g : Good b) where
   pub done : (i : ℕ) → b .count ≤ i → drop i (take (b .count) (b .«data»)) ≡ []
   done = tables.done zeroBuf (b .count) (b .«data») table
 
-  pub entry : (i : ℕ) → i < b .count → getD (take (b .count) (b .«data»)) i zeroBuf ≡ getD (b .«data») i zeroBuf
-  entry = tables.entry zeroBuf (b .count) (b .«data») table
+  -- the chunk at i; behind the chunks, both are zero
+  pub entry : (i : ℕ) → getD (take (b .count) (b .«data»)) i zeroBuf ≡ getD (b .«data») i zeroBuf
+  entry = tables.entry-any zeroBuf (b .count) (b .«data») table
 
-  -- behind the chunks, both are zero
-  pub entry-any : (i : ℕ) → getD (take (b .count) (b .«data»)) i zeroBuf ≡ getD (b .«data») i zeroBuf
-  entry-any i =
-      let l = take (b .count) (b .«data») in
-      tables.cases i (b .count) (entry i)
-      (λ h. let n : length l ≤ i = rw chunks-length h in
-      let k : i ≡ length l + (i - length l) = omega arith in
-      List·getD-eq-default l zeroBuf {n = i} n
-      ∙ sym (all-zero (64 - length l) (i - length l))
-      ∙ sym (getD-append-add l (replicate (64 - length l) zeroBuf) (i - length l) zeroBuf)
-      ∙ ap (λ (j : ℕ). getD (tableOf zeroBuf l) j zeroBuf) (sym k)
-      ∙ ap (λ (y : List RangeBuf). getD y i zeroBuf) (sym (table .clear)))
-
-  -- the chunk at i
   pub chunk-in : (i : ℕ) → i < b .count → Within (base (take (b .count) (b .«data»)) (b .off)) (b .off) (getD (b .«data») i zeroBuf)
   chunk-in i h =
-      rw (sym (entry i h))
+      rw (sym (entry i))
       (each-chunk (take (b .count) (b .«data»)) (base (take (b .count) (b .«data»)) (b .off)) (b .off) i (g .facts .adjoin) (omega (arith, chunks-length)))
 
   pub chunk-good : (i : ℕ) → i < b .count → GoodChunk (getD (b .«data») i zeroBuf)

@@ -237,13 +237,13 @@ module _ (b : SendBuf) (g : Good b) (at a n : ℕ) (h : Inside (viewOf b) at a n
   loss-end = ltb-false (b .«emit_off») (a + n) (h .was-sent)
 
   pub begins-low : getD (b .«data») at zeroBuf .off < a + n
-  begins-low = rw (entry b g at at-in) at (h .begins)
+  begins-low = rw (entry b g at) at (h .begins)
 
   rules : (back (viewOf b .chunks) a (a + n) ≡ movedFirst at a (take at (viewOf b .chunks)) ++ movedBack (leftPart (getD (b .«data») at zeroBuf) (a + n - getD (b .«data») at zeroBuf .off)) a ∷ rightPart (getD (b .«data») at zeroBuf) (a + n - getD (b .«data») at zeroBuf .off) ∷ drop (suc at) (viewOf b .chunks))
       × (backBytes (viewOf b .chunks) a (a + n) ≡ firstBytes at a (viewOf b .chunks) + (leftPart (getD (b .«data») at zeroBuf) (a + n - getD (b .«data») at zeroBuf .off) .pos - movedBack (leftPart (getD (b .«data») at zeroBuf) (a + n - getD (b .«data») at zeroBuf .off)) a .pos))
       × (a + n < end (getD (b .«data») at zeroBuf))
   rules =
-      rw (← entry b g at at-in, h .index)
+      rw (← entry b g at, h .index)
       (back-split a (a + n) (omega arith) (base (viewOf b .chunks) (b .off)) (viewOf b .chunks) (b .off) (g .facts .adjoin) (rw (← h .index) (h .there)) (rw (← h .index) (h .begins)))
 
   pub ends-high : a + n < end (getD (b .«data») at zeroBuf)

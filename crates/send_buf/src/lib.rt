@@ -17,7 +17,7 @@ ghost use Rattle.range_buf.specs.State.{Good as GoodChunk};
 ghost use Rattle.range_buf.specs.Rules.{start, avail, zeroBuf};
 ghost use lib.Dec.{ltb, leb, eqb};
 ghost use mathlib.Core.Bool.{cond, _&&_, _||_};
-ghost use mathlib.Core.List.{_++_};
+ghost use mathlib.Core.List.{List, _++_};
 ghost use Rattle.refusal.specs.Rules.{M, known, isAt, finWith};
 ghost use Rattle.send_buf.specs.State.{viewOf, bufOf, base, Good};
 ghost use Rattle.send_buf.specs.Steps.{setBlocked, setFin, setError, endedAt, bytesJudged, Fits, appended, without, movedTo, firstBytes, relisted, noRight, Inside, copiedOut, outAfter, sentTo, noBytes};
@@ -761,38 +761,28 @@ impl SendBuf {
         bytes
     }
 
-    // The entry at i once the first n chunks are gone.
-    fn shifted(self, n: usize, i: usize) -> RangeBuf
-        requires { ⌜ Good self ⌝ }
-        requires { ⌜ (n ≤ self .count) × (i < 64) ⌝ }
-        ensures { λ r. ⌜ r ≡ getD (drop n (viewOf self .chunks)) i zeroBuf ⌝ }
-    {
-        let j = n + i;
-        let count = self.count;
-        if j < count {
-            return self.data[j];
-        }
-        RangeBuf {
-            off: 0,
-            len: 0,
-            pos: 0,
-        }
-    }
-
     // The buffer without its first n chunks, of which `bytes` bytes were still to be sent.
     fn drop_front(self, n: usize, bytes: u64) -> SendBuf
         requires { ⌜ Good self ⌝ }
         requires { ⌜ (n ≤ self .count) × (bytes ≤ self .«buffered_bytes») ⌝ }
         ensures { λ r. ⌜ r ≡ bufOf (without (viewOf self) n bytes) ⌝ }
     {
+        let count = self.count;
         let mut next = self;
         let mut i: usize = 0;
-        while i < 64 {
-            let buf = self.shifted(n, i);
-            next.data[i] = buf;
+        while i < count {
+            if n + i < count {
+                next.data[i] = self.data[n + i];
+            } else {
+                next.data[i] = RangeBuf {
+                    off: 0,
+                    len: 0,
+                    pos: 0,
+                };
+            }
             i += 1;
         }
-        next.count = self.count - n;
+        next.count = count - n;
         next.pos = refusal::saturating_sub(self.pos as u64, n as u64) as usize;
         next.buffered_bytes = self.buffered_bytes - bytes;
         next
@@ -892,39 +882,24 @@ impl SendBuf {
         self.pos
     }
 
-    // The entry at i after a loss.
-    fn relisted(self, lost: Lost, i: usize) -> RangeBuf
-        requires { ⌜ Good self ⌝ }
-        requires { ⌜ (lost .at ≤ self .count) × (i < 64) ⌝ }
-        ensures { λ r. ⌜ r ≡ getD (relisted lost (viewOf self .chunks)) i zeroBuf ⌝ }
-    {
-        if i < lost.at {
-            let buf = self.data[i];
-            return moved_to(buf, lost.from);
-        }
-        if !lost.split {
-            return self.data[i];
-        }
-        if i == lost.at {
-            return lost.left;
-        }
-        if i == lost.at + 1 {
-            return lost.right;
-        }
-        self.data[i - 1]
-    }
-
     // The buffer with the chunks after a loss, which are `count`, another send position, and `bytes` more to be sent.
     fn relist(self, lost: Lost, count: usize, pos: usize, bytes: u64) -> SendBuf
         requires { ⌜ Good self ⌝ }
-        requires { ⌜ (lost .at ≤ self .count) × (count ≡ length (relisted lost (viewOf self .chunks))) × (count ≤ 64) × (self .«buffered_bytes» + bytes ≤ M) ⌝ }
+        requires { ⌜ (lost .at ≤ self .count) × (self .count ≤ count) × (count ≡ length (relisted lost (viewOf self .chunks))) × (count ≤ 64) × (self .«buffered_bytes» + bytes ≤ M) ⌝ }
         ensures { λ r. ⌜ r ≡ bufOf (withQueue (viewOf self) (relisted lost (viewOf self .chunks)) pos (self .«buffered_bytes» + bytes)) ⌝ }
     {
         let mut next = self;
+        let mut before = RangeBuf {
+            off: 0,
+            len: 0,
+            pos: 0,
+        };
         let mut i: usize = 0;
-        while i < 64 {
-            let buf = self.relisted(lost, i);
+        while i < count {
+            let here = self.data[i];
+            let buf = relisted_at(lost, i, here, before);
             next.data[i] = buf;
+            before = here;
             i += 1;
         }
         next.count = count;
@@ -1117,6 +1092,26 @@ fn moved_to(buf: RangeBuf, off: u64) -> RangeBuf
         len: buf.len,
         pos: refusal::least(buf.pos, refusal::saturating_sub(off, buf.off)),
     }
+}
+
+// The entry at i after a loss, where `here` is the one at i, and `before` the one before it.
+fn relisted_at(lost: Lost, i: usize, here: RangeBuf, before: RangeBuf) -> RangeBuf
+    requires { ⌜ (i < 64) × (i < lost .at → GoodChunk here) ⌝ }
+    ensures { λ r. ⌜ ((l : List RangeBuf) → lost .at ≤ length l → getD l i zeroBuf ≡ here → (0 < i → getD l (i - 1) zeroBuf ≡ before) → r ≡ getD (relisted lost l) i zeroBuf) ⌝ }
+{
+    if i < lost.at {
+        return moved_to(here, lost.from);
+    }
+    if !lost.split {
+        return here;
+    }
+    if i == lost.at {
+        return lost.left;
+    }
+    if i == lost.at + 1 {
+        return lost.right;
+    }
+    before
 }
 
 // A split's refusal goes up under its own number.

@@ -80,7 +80,7 @@ relist-requires c κs =
     let m = c .before .back-bytes in
     let t = sym (c .before .before .before .begins-below .ensures) ∙ c .before .before .if3 .left in
     let e = plain-bytes b (s .pre) (d .result) (s .args .off) (s .args .len) (d .ensures .0) t (m .result) (m .ensures .0) in
-    (s .pre, (d .ensures .1, plain-length b (s .pre) (d .result) (s .args .off) (s .args .len) (d .ensures .0) t, few b (s .pre), rw e (loss-in (viewOf b) (s .pre .facts) (s .args .off) (s .args .off + s .args .len))))
+    (s .pre, (d .ensures .1, omega arith, plain-length b (s .pre) (d .result) (s .args .off) (s .args .len) (d .ensures .0) t, few b (s .pre), rw e (loss-in (viewOf b) (s .pre .facts) (s .args .off) (s .args .off + s .args .len))))
 
 returns-4 : tie.Need-returns-4
 returns-4 c =

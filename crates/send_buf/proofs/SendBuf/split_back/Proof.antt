@@ -78,7 +78,7 @@ relist-requires : tie.Need-relist-requires
 relist-requires c κs =
     let s = c .before .before .before .before .before .before .before .before .before .before .before .before .before in
     let e = split-bytes (s .args .t1) (s .pre .0) (s .args .at) (s .args .off) (s .args .len) (s .pre .1) (c .before .before .before .before .before .before .before .before .before .split-off .result) (c .before .before .before .before .before .before .before .before .before .split-off .ensures) (c .before .before .before .before .moved-to .result) (c .before .before .before .before .before .before .before .said .given .0 .0) (c .before .before .before .before .moved-to .ensures .0) (c .before .before .before .before .before .before .before .said .given .1) (c .before .before .before .back-bytes .result) (c .before .before .before .back-bytes .ensures .0) in
-    (s .pre .0, (omega (arith, at-in (s .args .t1) (s .pre .0) (s .args .at) (s .args .off) (s .args .len) (s .pre .1)), split-length (s .args .t1) (s .pre .0) (s .args .at) (s .args .off) (s .args .len) (s .pre .1) (c .before .before .before .before .moved-to .result) (c .before .before .before .before .before .before .before .said .given .0 .0), omega (arith, c .before .before .before .before .before .before .before .before .before .before .before .before .if1 .left), rw e (loss-in (viewOf (s .args .t1)) (s .pre .0 .facts) (s .args .off) (s .args .off + s .args .len))))
+    (s .pre .0, (omega (arith, at-in (s .args .t1) (s .pre .0) (s .args .at) (s .args .off) (s .args .len) (s .pre .1)), omega arith, split-length (s .args .t1) (s .pre .0) (s .args .at) (s .args .off) (s .args .len) (s .pre .1) (c .before .before .before .before .moved-to .result) (c .before .before .before .before .before .before .before .said .given .0 .0), omega (arith, c .before .before .before .before .before .before .before .before .before .before .before .before .if1 .left), rw e (loss-in (viewOf (s .args .t1)) (s .pre .0 .facts) (s .args .off) (s .args .off + s .args .len))))
 
 returns-3 : tie.Need-returns-3
 returns-3 c =
