@@ -16,7 +16,6 @@ mod Asked
 mod Acking
 mod Cutting
 mod Writing
-mod Filling
 mod Dropping
 mod Losing
 mod Emitting

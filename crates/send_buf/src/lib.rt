@@ -768,13 +768,13 @@ impl SendBuf {
         ensures { λ r. ⌜ r ≡ bufOf (without (viewOf self) n bytes) ⌝ }
     {
         let count = self.count;
-        let mut next = self;
+        let mut data = self.data;
         let mut i: usize = 0;
         while i < count {
             if n + i < count {
-                next.data[i] = self.data[n + i];
+                data[i] = data[n + i];
             } else {
-                next.data[i] = RangeBuf {
+                data[i] = RangeBuf {
                     off: 0,
                     len: 0,
                     pos: 0,
@@ -782,6 +782,8 @@ impl SendBuf {
             }
             i += 1;
         }
+        let mut next = self;
+        next.data = data;
         next.count = count - n;
         next.pos = refusal::saturating_sub(self.pos as u64, n as u64) as usize;
         next.buffered_bytes = self.buffered_bytes - bytes;
@@ -888,7 +890,7 @@ impl SendBuf {
         requires { ⌜ (lost .at ≤ self .count) × (self .count ≤ count) × (count ≡ length (relisted lost (viewOf self .chunks))) × (count ≤ 64) × (self .«buffered_bytes» + bytes ≤ M) ⌝ }
         ensures { λ r. ⌜ r ≡ bufOf (withQueue (viewOf self) (relisted lost (viewOf self .chunks)) pos (self .«buffered_bytes» + bytes)) ⌝ }
     {
-        let mut next = self;
+        let mut data = self.data;
         let mut before = RangeBuf {
             off: 0,
             len: 0,
@@ -896,12 +898,13 @@ impl SendBuf {
         };
         let mut i: usize = 0;
         while i < count {
-            let here = self.data[i];
-            let buf = relisted_at(lost, i, here, before);
-            next.data[i] = buf;
+            let here = data[i];
+            data[i] = relisted_at(lost, i, here, before);
             before = here;
             i += 1;
         }
+        let mut next = self;
+        next.data = data;
         next.count = count;
         next.pos = pos;
         next.buffered_bytes = self.buffered_bytes + bytes;

@@ -145,32 +145,31 @@ module _ {A : Type 0} where
         ∙ getD-drop b xs (i - a - 1) d
         ∙ ap (λ (k : ℕ). getD xs k d) (omega arith)
 
--- ---- a fill that ends at n: the places below i hold the entries of l, and those from n on held them from the start
+-- ---- a fill in place: the places below i hold the entries of l, and those from i on what they held in `old`
 
-pub record Filling {A : Type 0} (z : A) (l : List A) (n : ℕ) (xs : List A) (i : ℕ) : Type 0 where
+pub record Filling {A : Type 0} (z : A) (old l xs : List A) (i : ℕ) : Type 0 where
   pub long : length xs ≡ 64
   pub front : (k : ℕ) → k < i → getD xs k z ≡ getD l k z
-  pub behind : (k : ℕ) → n ≤ k → getD xs k z ≡ getD l k z
+  pub rest : (k : ℕ) → i ≤ k → getD xs k z ≡ getD old k z
 
-module _ {A : Type 0} (z : A) (l : List A) (n : ℕ) where
-  -- it starts from a table of which no more than n places are in use, or from one of zeros
-  pub fill-starts : (m : ℕ) (xs : List A) → Table z m xs → m ≤ n → length l ≤ n → Filling z l n xs 0
-  fill-starts m xs t h le =
-      record {
-        long = slots z m xs t;
-        front = below-none _;
-        behind = λ k b. sym (entry-any z m xs t k) ∙ List·getD-eq-default (take m xs) z {n = k} (rw (view-length z m xs t) (omega arith)) ∙ sym (List·getD-eq-default l z {n = k} (omega arith));
-      }
+module _ {A : Type 0} (z : A) (old l : List A) where
+  pub fill-starts : length old ≡ 64 → Filling z old l old 0
+  fill-starts e = record { long = e; front = below-none _; rest = λ k h. refl }
 
   -- one store more
-  pub fill-more : (xs : List A) (i : ℕ) (v : A) → Filling z l n xs i → i < n → i < 64 → v ≡ getD l i z → Filling z l n (set xs i v) (i + 1)
-  fill-more xs i v f less h e =
+  pub fill-more : (xs : List A) (i : ℕ) (v : A) → Filling z old l xs i → i < 64 → v ≡ getD l i z → Filling z old l (set xs i v) (i + 1)
+  fill-more xs i v f h e =
       record {
         long = length-set xs i v ∙ f .long;
         front = filled-more xs l i v z (rw (f .long) h) e (f .front);
-        behind = λ k b. getD-set-other xs i k v z (omega arith) ∙ f .behind k b;
+        rest = λ k b. getD-set-other xs i k v z (omega arith) ∙ f .rest k (omega arith);
       }
 
-  -- it is full: the table of l
-  pub fill-ends : (xs : List A) (i : ℕ) → Filling z l n xs i → n ≤ i → length l ≤ 64 → xs ≡ tableOf z l
-  fill-ends xs i f h le = filled-all xs l z (f .long) le (λ k lt. cases k i (f .front k) (λ b. f .behind k (omega arith)))
+  -- it may end where neither the old table, of which m places are in use, nor l has more: it is the table of l
+  pub fill-ends : (m : ℕ) → Table z m old → (xs : List A) (i : ℕ) → Filling z old l xs i → m ≤ i → length l ≤ i → length l ≤ 64 → xs ≡ tableOf z l
+  fill-ends m t xs i f h le few =
+      filled-all xs l z (f .long) few
+      (λ k lt. cases k i (f .front k)
+      (λ b. f .rest k b ∙ sym (entry-any z m old t k)
+      ∙ List·getD-eq-default (take m old) z {n = k} (rw (view-length z m old t) (omega arith))
+      ∙ sym (List·getD-eq-default l z {n = k} (omega arith))))

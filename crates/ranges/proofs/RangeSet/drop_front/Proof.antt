@@ -1,19 +1,20 @@
 -- `RangeSet::drop_front` meets its contract. The invariant: the first i places of the new table are filled. Assumes nothing.
 use Prim.Native.Nat.{_≤_, _-_, _+_}
 use native.Mathlib.Omega.{arith}
-use mathlib.Core.Path.{_≡_, sym, _∙_}
+use mathlib.Core.Path.{_≡_, refl, sym, _∙_}
 use mathlib.Core.List.{[]}
 use borrow.Author.Needs.{needs}
 use lib.ListN.{drop, length, length-drop}
 use lib.Seq.{getD-drop}
 use Rattle.ranges.specs.State.{ranges, zeroRange}
+use Rattle.tables.specs.Lists.{tableOf}
 use Rattle.tables.proofs.Tables.{Filling, table-of, fill-starts, fill-more, fill-ends}
 use Rattle.ranges.proofs.Good.{made, entry, ranges-length}
 use Rattle.ranges.proofs.RangeSet.drop_front.Statement.{statement}
 use Rattle.ranges.proofs.RangeSet.drop_front.Tie as tie
 
 abbrev Inv-loop : tie.InvT-loop
-Inv-loop k self left inner₀ i₀ inner i = (i ≤ left) × Filling zeroRange (drop k (ranges self)) left inner i
+Inv-loop k self left inner₀ i₀ inner i = (i ≤ left) × Filling zeroRange (tableOf zeroRange []) (drop k (ranges self)) inner i
 
 abbrev μ-loop : tie.MeasureT-loop
 μ-loop k self left inner₀ i₀ inner i = left - i
@@ -22,10 +23,7 @@ sub-left : tie.Need-sub-left Inv-loop μ-loop
 sub-left c = search needs
 
 loop-holds : tie.Need-loop-holds Inv-loop μ-loop
-loop-holds c =
-    let s = c .args .t1 in
-    let m : length (drop (c .args .k) (ranges s)) ≡ s .count - c .args .k = simp (length-drop, ranges-length s (c .pre .0)) in
-    (search needs, fill-starts zeroRange (drop (c .args .k) (ranges s)) (s .count - c .args .k) 0 _ (table-of zeroRange [] (omega arith)) (omega arith) (omega arith))
+loop-holds c = (search needs, fill-starts zeroRange (tableOf zeroRange []) (drop (c .args .k) (ranges (c .args .t1))) refl)
 
 add-inner : tie.Need-add-inner Inv-loop μ-loop
 add-inner c = search needs
@@ -54,7 +52,7 @@ loop-again c =
     let s = a .before .args .t1 in
     let k = a .before .args .k in (
       search needs,
-      fill-more zeroRange (drop k (ranges s)) (s .count - k) (a .loop .inner) (a .loop .i) _ (a .loop .inv .1) (search needs) (search needs)
+      fill-more zeroRange (tableOf zeroRange []) (drop k (ranges s)) (a .loop .inner) (a .loop .i) _ (a .loop .inv .1) (search needs)
           (sym (getD-drop k (ranges s) (a .loop .i) zeroRange ∙ entry s (a .before .pre .0) (k + a .loop .i))),
     )
 
@@ -64,7 +62,7 @@ returns c =
     let k = c .before .before .args .k in
     let m : length (drop k (ranges s)) ≡ s .count - k = simp (length-drop, ranges-length s (c .before .before .pre .0)) in
     made (s .capacity) (s .count - k) (c .before .loop .inner) (drop k (ranges s)) (sym m)
-    (fill-ends zeroRange (drop k (ranges s)) (s .count - k) (c .before .loop .inner) (c .before .loop .i) (c .before .loop .inv .1) (search needs) (omega (arith, m, c .before .before .pre .0 .table .few)))
+    (fill-ends zeroRange (tableOf zeroRange []) (drop k (ranges s)) 0 (table-of zeroRange [] (omega arith)) (c .before .loop .inner) (c .before .loop .i) (c .before .loop .inv .1) (omega arith) (omega (arith, m)) (omega (arith, m, c .before .before .pre .0 .table .few)))
 
 pub drop-front-spec : {M : Type 1} → statement M
 drop-front-spec =

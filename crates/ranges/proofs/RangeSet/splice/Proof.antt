@@ -1,7 +1,7 @@
 -- `RangeSet::splice` meets its contract. The invariant: the first i places of the table are those of the new one. Assumes nothing.
 use Prim.Native.Nat.{_+_, _-_, _≤_, _<_, min}
 use native.Mathlib.Omega.{arith}
-use mathlib.Core.Path.{_≡_, sym, _∙_}
+use mathlib.Core.Path.{_≡_, refl, sym, _∙_}
 use mathlib.Core.Logic.{⊎-elim}
 use borrow.Author.Needs.{needs}
 use lib.ListN.{length, getD, set, List·getD-eq-default}
@@ -9,14 +9,14 @@ use lib.Seq.{getD-set-same}
 use Rattle.ranges.specs.declared.Range.{Range}
 use Rattle.ranges.specs.State.{ranges, zeroRange}
 use Rattle.tables.specs.Lists.{spliceAt}
-use Rattle.tables.proofs.Tables.{Filling, fill-starts, fill-more, fill-ends, splice-length, splice-low, splice-at, splice-high}
+use Rattle.tables.proofs.Tables.{Filling, fill-more, fill-ends, splice-length, splice-low, splice-at, splice-high}
 use Rattle.ranges.proofs.Good.{made, entry, inner-length, ranges-length}
 use Rattle.ranges.proofs.RangeSet.splice.Statement.{statement}
 use Rattle.ranges.proofs.RangeSet.splice.Tie as tie
 
 abbrev Inv-loop : tie.InvT-loop
 Inv-loop a b self count end inner₀ i₀ inner i =
-    (a < i) × (i ≤ end) × (end ≡ min (count + 1) 64) × Filling zeroRange (spliceAt a b (getD inner₀ a zeroRange) (ranges self)) end inner i
+    (a < i) × (i ≤ end) × (end ≡ min (count + 1) 64) × Filling zeroRange (self .inner) (spliceAt a b (getD inner₀ a zeroRange) (ranges self)) inner i
 
 abbrev μ-loop : tie.MeasureT-loop
 μ-loop a b self count end inner₀ i₀ inner i = end - i
@@ -38,22 +38,20 @@ loop-holds c =
     let p = c .before .before in
     let t = p .args in
     let s = t .t1 in
-    let n = ranges-length s (p .pre .0) in
-    let bl : t .b ≤ length (ranges s) = rw n (p .pre .1 .1) in
+    let bl : t .b ≤ length (ranges s) = rw (ranges-length s (p .pre .0)) (p .pre .1 .1) in
     let e : c .before .if1 .end ≡ min (s .count + 1) 64 = ⊎-elim (λ w. omega arith) (λ w. omega arith) (c .before .if1 .came) in
     let l = spliceAt (t .a) (t .b) (t .x) (ranges s) in
-    let m = splice-length (ranges s) (t .a) (t .b) (t .x) zeroRange (p .pre .1 .0) bl in
-    let f : Filling zeroRange l (c .before .if1 .end) (s .inner) (t .a) =
+    let f : Filling zeroRange (s .inner) l (s .inner) (t .a) =
     record {
       long = inner-length s (p .pre .0);
       front = λ k h. sym (splice-low (ranges s) (t .a) (t .b) (t .x) zeroRange (p .pre .1 .0) bl k h ∙ entry s (p .pre .0) k);
-      behind = fill-starts zeroRange l (c .before .if1 .end) (s .count) (s .inner) (p .pre .0 .table) (omega (arith, p .pre .0 .table .few)) (omega (arith, n, m)) .behind;
+      rest = λ k h. refl;
     } in (
       search needs,
       omega (arith, p .pre .0 .table .few),
       e,
       rw (getD-set-same (s .inner) (t .a) (t .x) zeroRange (omega (arith, inner-length s (p .pre .0))))
-          (fill-more zeroRange l (c .before .if1 .end) (s .inner) (t .a) (t .x) f (omega arith) (omega arith)
+          (fill-more zeroRange (s .inner) l (s .inner) (t .a) (t .x) f (omega arith)
           (sym (splice-at (ranges s) (t .a) (t .b) (t .x) zeroRange (p .pre .1 .0) bl))),
     )
 
@@ -102,8 +100,8 @@ loop-again c =
     let x = getD (set (s .inner) (t .a) (t .x)) (t .a) zeroRange in
     let l = spliceAt (t .a) (t .b) x (ranges s) in
     let high = splice-high (ranges s) (t .a) (t .b) x zeroRange (p .pre .1 .0) (rw n (p .pre .1 .1)) i (a .loop .inv .0) in
-    let more : (v : Range) → v ≡ getD l i zeroRange → Filling zeroRange l (a .before .before .if1 .end) (set (a .loop .inner) i v) (i + 1) =
-    λ v e. fill-more zeroRange l (a .before .before .if1 .end) (a .loop .inner) i v (a .loop .inv .3) (search needs) (search needs) e in (
+    let more : (v : Range) → v ≡ getD l i zeroRange → Filling zeroRange (s .inner) l (set (a .loop .inner) i v) (i + 1) =
+    λ v e. fill-more zeroRange (s .inner) l (a .loop .inner) i v (a .loop .inv .3) (search needs) e in (
       search needs,
       search needs,
       a .loop .inv .2,
@@ -133,7 +131,7 @@ returns c =
     let m = splice-length (ranges s) (t .a) (t .b) (t .x) zeroRange (p .pre .1 .0) (rw n (p .pre .1 .1)) in
     let e = getD-set-same (s .inner) (t .a) (t .x) zeroRange (omega (arith, inner-length s (p .pre .0))) in
     made (s .capacity) _ (a .loop .inner) l (omega (arith, n, m))
-    (fill-ends zeroRange l (a .before .before .if1 .end) (a .loop .inner) (a .loop .i) (rw e at (a .loop .inv .3)) (search needs) (omega (arith, n, m)))
+    (fill-ends zeroRange (s .inner) l (s .count) (p .pre .0 .table) (a .loop .inner) (a .loop .i) (rw e at (a .loop .inv .3)) (omega (arith, p .pre .0 .table .few)) (omega (arith, n, m)) (omega (arith, n, m)))
 
 pub splice-spec : {M : Type 1} → statement M
 splice-spec =
