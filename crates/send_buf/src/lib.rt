@@ -90,6 +90,12 @@ struct Lost {
     right: RangeBuf,
 }
 
+// Chunks at the front: how many, and how many of their bytes are still to be sent.
+struct Leading {
+    count: usize,
+    bytes: u64,
+}
+
 // What was copied out: how many bytes, the index of the chunk to send next, and the buffer with its chunks consumed.
 struct Copied {
     answer: CountAnswer,
@@ -254,11 +260,10 @@ impl SendBuf {
         };
         let acked = out.buf;
         let to = acked.drop_to(off);
-        let n = acked.drop_count(to);
-        let bytes = acked.drop_bytes(to);
+        let gone = acked.leading(to);
         CountOutcome {
-            answer: CountAnswer::Count(bytes),
-            buf: acked.drop_front(n, bytes),
+            answer: CountAnswer::Count(gone.bytes),
+            buf: acked.drop_front(gone.count, gone.bytes),
         }
     }
 
@@ -387,7 +392,8 @@ impl SendBuf {
         if count <= i {
             return self.off;
         }
-        let buf = self.data[i];
+        let data = self.data;
+        let buf = data[i];
         buf.off()
     }
 
@@ -692,7 +698,7 @@ impl SendBuf {
             let Answer::Done = said else {
                 return CountOutcome {
                     answer: said.with_count(0),
-                    buf: self,
+                    buf: next,
                 };
             };
             arena::keep(arena, off, &input[at..at + n]);
@@ -722,43 +728,40 @@ impl SendBuf {
         0
     }
 
-    // How many leading chunks end at or below k.
-    fn drop_count(self, k: u64) -> usize
+    // The leading chunks that end at or below k.
+    fn leading(self, k: u64) -> Leading
         requires { ⌜ Good self ⌝ }
-        ensures { λ r. ⌜ (r ≡ dropCount (viewOf self .chunks) k) × (r ≤ self .count) ⌝ }
+        ensures { λ r. ⌜ (r .count ≡ dropCount (viewOf self .chunks) k) × (r .count ≤ self .count) ⌝ }
+        ensures { λ r. ⌜ (r .bytes ≡ dropBytes (viewOf self .chunks) k) × (r .bytes ≤ self .«buffered_bytes») ⌝ }
     {
         let count = self.count;
-        let mut i: usize = 0;
-        let found = loop {
-            if count <= i {
-                break i;
-            }
-            let buf = self.data[i];
-            if k < buf.max_off() {
-                break i;
-            }
-            i += 1;
-        };
-        found
-    }
-
-    // How many of their bytes are still to be sent.
-    fn drop_bytes(self, k: u64) -> u64
-        requires { ⌜ Good self ⌝ }
-        ensures { λ r. ⌜ (r ≡ dropBytes (viewOf self .chunks) k) × (r ≤ self .«buffered_bytes») ⌝ }
-    {
-        let count = self.count;
+        let data = self.data;
         let mut bytes: u64 = 0;
         let mut i: usize = 0;
         while i < count {
-            let buf = self.data[i];
+            let buf = data[i];
             if k < buf.max_off() {
-                return bytes;
+                return Leading {
+                    count: i,
+                    bytes: bytes,
+                };
             }
             bytes += buf.len();
             i += 1;
         }
-        bytes
+        Leading {
+            count: i,
+            bytes: bytes,
+        }
+    }
+
+    // How many they are.
+    fn drop_count(self, k: u64) -> usize
+        requires { ⌜ Good self ⌝ }
+        ensures { λ r. ⌜ (r ≡ dropCount (viewOf self .chunks) k) × (r ≤ self .count) ⌝ }
+    {
+        let leading = self.leading(k);
+        leading.count
     }
 
     // The buffer without its first n chunks, of which `bytes` bytes were still to be sent.
@@ -1020,12 +1023,13 @@ impl SendBuf {
         ensures { λ r. ⌜ (r ≡ first (viewOf self)) × (r ≤ self .count) ⌝ }
     {
         let count = self.count;
+        let data = self.data;
         let mut i = self.pos;
         let found = loop {
             if count <= i {
                 break i;
             }
-            let buf = self.data[i];
+            let buf = data[i];
             if 0 < buf.len() {
                 break i;
             }

@@ -30,24 +30,22 @@ returns c =
 drop-to-requires : tie.Need-drop-to-requires
 drop-to-requires c κs = let t = c .before .before .before in still-good (t .before .args .self) (t .before .pre) (t .before .args .off) (t .before .args .len) (t .ack .result) (t .ack .ensures)
 
-drop-count-requires : tie.Need-drop-count-requires
-drop-count-requires c κs = let t = c .before .before .before .before in still-good (t .before .args .self) (t .before .pre) (t .before .args .off) (t .before .args .len) (t .ack .result) (t .ack .ensures)
-
-drop-bytes-requires : tie.Need-drop-bytes-requires
-drop-bytes-requires c κs = let t = c .before .before .before .before .before in still-good (t .before .args .self) (t .before .pre) (t .before .args .off) (t .before .args .len) (t .ack .result) (t .ack .ensures)
+leading-requires : tie.Need-leading-requires
+leading-requires c κs = let t = c .before .before .before .before in still-good (t .before .args .self) (t .before .pre) (t .before .args .off) (t .before .args .len) (t .ack .result) (t .ack .ensures)
 
 drop-front-requires : tie.Need-drop-front-requires
 drop-front-requires c κs =
-    let t = c .before .before .before .before .before .before in
-    (still-good (t .before .args .self) (t .before .pre) (t .before .args .off) (t .before .args .len) (t .ack .result) (t .ack .ensures), (c .before .drop-count .ensures .1, c .drop-bytes .ensures .1))
+    let t = c .before .before .before .before .before in
+    (still-good (t .before .args .self) (t .before .pre) (t .before .args .off) (t .before .args .len) (t .ack .result) (t .ack .ensures), (c .leading .ensures .0 .1, c .leading .ensures .1 .1))
 
 returns-2 : tie.Need-returns-2
 returns-2 c =
-    let t = c .before .before .before .before .before .before .before in
+    let t = c .before .before .before .before .before .before in
     let a = t .before in
-    is-dropped (viewOf (a .args .self)) (a .args .off) (a .args .len) (t .ack .result) (t .ack .ensures) (c .before .before .before .before .before .enum-told .given .1)
-    (c .before .before .before .drop-to .result) (c .before .before .drop-count .result) (c .before .drop-bytes .result) (c .drop-front .result)
-    (c .before .before .before .drop-to .ensures) (c .before .before .drop-count .ensures .0) (c .before .drop-bytes .ensures .0) (c .drop-front .ensures)
+    let gone = c .before .leading in
+    is-dropped (viewOf (a .args .self)) (a .args .off) (a .args .len) (t .ack .result) (t .ack .ensures) (c .before .before .before .before .enum-told .given .1)
+    (c .before .before .drop-to .result) (gone .result .count) (gone .result .bytes) (c .drop-front .result)
+    (c .before .before .drop-to .ensures) (gone .ensures .0 .0) (gone .ensures .1 .0) (c .drop-front .ensures)
 
 pub ack-and-drop-spec : {M : Type 1} → statement M
 ack-and-drop-spec =
@@ -59,7 +57,6 @@ ack-and-drop-spec =
     with-count-requires
     returns
     drop-to-requires
-    drop-count-requires
-    drop-bytes-requires
+    leading-requires
     drop-front-requires
     returns-2)

@@ -19,25 +19,25 @@ first-requires c κs = search needs
 returns : tie.Need-returns
 returns c =
     let a = c .before .before in
-    let i : a .args .t1 .count ≤ first (viewOf (a .args .t1)) = omega (arith, c .before .first .ensures .0) in
-    sym (front-end (a .args .t1) (a .pre) i)
+    let i : a .args .self .count ≤ first (viewOf (a .args .self)) = omega (arith, c .before .first .ensures .0) in
+    sym (front-end (a .args .self) (a .pre) i)
 
 mul-buf : tie.Need-mul-buf
-mul-buf c = omega (arith, few (c .before .before .args .t1) (c .before .before .pre))
+mul-buf c = omega (arith, few (c .before .before .before .args .self) (c .before .before .before .pre))
 
-element-copy-out-buf : tie.Need-element-copy-out-buf
-element-copy-out-buf c = omega (arith, few (c .before .before .args .t1) (c .before .before .pre))
+array-copy-out-buf : tie.Need-array-copy-out-buf
+array-copy-out-buf c = omega (arith, few (c .before .before .before .args .self) (c .before .before .before .pre))
 
 off-requires : tie.Need-off-requires
-off-requires c κs = let a = c .before .before .before in chunk-good (a .args .t1) (a .pre) (c .before .before .first .result) (search needs)
+off-requires c κs = let a = c .before .before .before .before in chunk-good (a .args .self) (a .pre) (c .before .before .before .first .result) (search needs)
 
 returns-2 : tie.Need-returns-2
 returns-2 c =
-    let a = c .before .before .before .before in
-    let f = c .before .before .before .first in
-    let h : first (viewOf (a .args .t1)) < a .args .t1 .count = rw (sym (f .ensures .0)) (c .before .before .if1 .left) in
-    c .off .ensures ∙ ap (λ (i : ℕ). start (getD (a .args .t1 .«data») i zeroBuf)) (f .ensures .0) ∙ sym (front-at (a .args .t1) (a .pre) h .0)
+    let a = c .before .before .before .before .before in
+    let f = c .before .before .before .before .first in
+    let h : first (viewOf (a .args .self)) < a .args .self .count = rw (sym (f .ensures .0)) (c .before .before .before .if1 .left) in
+    c .off .ensures ∙ ap (λ (i : ℕ). start (getD (a .args .self .«data») i zeroBuf)) (f .ensures .0) ∙ sym (front-at (a .args .self) (a .pre) h .0)
 
 pub off-front-spec : {M : Type 1} → statement M
 off-front-spec =
-    tie.close (tie.spec first-requires returns mul-buf element-copy-out-buf off-requires returns-2)
+    tie.close (tie.spec first-requires returns mul-buf array-copy-out-buf off-requires returns-2)
