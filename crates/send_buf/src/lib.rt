@@ -161,8 +161,9 @@ impl SendBuf {
                 buf: self,
             };
         }
-        let front = self.off_front();
-        let copied = self.copy_out(front, arena, out);
+        let at = self.first();
+        let front = self.starts_at(at);
+        let copied = self.copy_out(at, front, arena, out);
         let said = copied.answer;
         let CountAnswer::Count(n) = said else {
             return EmitOutcome {
@@ -388,13 +389,7 @@ impl SendBuf {
         ensures { λ r. ⌜ r ≡ front (viewOf self) ⌝ }
     {
         let i = self.first();
-        let count = self.count;
-        if count <= i {
-            return self.off;
-        }
-        let data = self.data;
-        let buf = data[i];
-        buf.off()
+        self.starts_at(i)
     }
 
     // How far the peer lets us send.
@@ -607,16 +602,17 @@ impl SendBuf {
         64 < self.count + (k + 4095) / 4096
     }
 
-    // Copies out what adjoins from the front offset on, one chunk after the other, each straight behind the one before it.
-    fn copy_out(self, from: u64, arena: &[u8], out: &mut [u8]) -> Copied
+    // Copies out what adjoins from the front offset on, one chunk after the other, each straight behind the one before it. The first is
+    // that at index `at`.
+    fn copy_out(self, at: usize, from: u64, arena: &[u8], out: &mut [u8]) -> Copied
         requires { ⌜ Good self ⌝ }
-        requires { ⌜ (from ≡ front (viewOf self)) × (0 < length (now arena)) ⌝ }
+        requires { ⌜ (from ≡ front (viewOf self)) × (0 < length (now arena)) × (at ≡ first (viewOf self)) × (at ≤ self .count) ⌝ }
         ensures { λ r. ⌜ r ≡ copiedOut (viewOf self) (length (now (out .entry))) ⌝ }
         ensures { λ _. ⌜ now (out .exit) ≡ outAfter (viewOf self) (now (arena .entry)) (now (out .entry)) ⌝ }
     {
         let mut next = self;
         let count = self.count;
-        let mut i = self.first();
+        let mut i = at;
         let mut done: usize = 0;
         while i < count {
             let buf = next.data[i];
@@ -646,6 +642,21 @@ impl SendBuf {
             at: i,
             buf: next,
         }
+    }
+
+    // The offset of the first byte to be sent next, which is in the chunk at index i, or the end of what was written.
+    fn starts_at(self, i: usize) -> u64
+        requires { ⌜ Good self ⌝ }
+        requires { ⌜ i ≡ first (viewOf self) ⌝ }
+        ensures { λ r. ⌜ r ≡ front (viewOf self) ⌝ }
+    {
+        let count = self.count;
+        if count <= i {
+            return self.off;
+        }
+        let data = self.data;
+        let buf = data[i];
+        buf.off()
     }
 
     // The buffer once n bytes from the front offset on are out, and `at` is the chunk to send next.

@@ -19,16 +19,13 @@ use Rattle.send_buf.proofs.SendBuf.copy_out.Statement.{statement}
 use Rattle.send_buf.proofs.SendBuf.copy_out.Tie as tie
 
 abbrev Inv-loop : tie.InvT-loop
-Inv-loop self from arena out₀ next₀ count i₀ done₀ out next i done = Emitting arena out₀ self out next i i done
+Inv-loop self at from arena out₀ next₀ count i₀ done₀ out next i done = Emitting arena out₀ self out next i i done
 
 abbrev μ-loop : tie.MeasureT-loop
-μ-loop self from arena out₀ next₀ count i₀ done₀ out next i done = count - i
-
-first-requires : tie.Need-first-requires Inv-loop μ-loop
-first-requires c κs = search needs
+μ-loop self at from arena out₀ next₀ count i₀ done₀ out next i done = count - i
 
 loop-holds : tie.Need-loop-holds Inv-loop μ-loop
-loop-holds c = let s = c .before .before .before in emit-starts (s .args .arena .now) (s .args .out .now) (s .args .self) (s .pre .0) (c .first .result) (c .first .ensures .0) (c .first .ensures .1)
+loop-holds c = let s = c .before .before in emit-starts (s .args .arena .now) (s .args .out .now) (s .args .self) (s .pre .0) (s .args .at) (s .pre .1 .2) (s .pre .1 .3)
 
 mul-buf : tie.Need-mul-buf Inv-loop μ-loop
 mul-buf c = search needs
@@ -40,12 +37,12 @@ sub-goes-on : tie.Need-sub-goes-on Inv-loop μ-loop
 sub-goes-on c = search needs
 
 add-goes-on : tie.Need-add-goes-on Inv-loop μ-loop
-add-goes-on c = let v = c .before .before .loop in omega (arith, v .inv .reach, c .before .before .before .before .before .before .pre .1 .0)
+add-goes-on c = let v = c .before .before .loop in omega (arith, v .inv .reach, c .before .before .before .before .before .pre .1 .0)
 
 goes-on-requires : tie.Need-goes-on-requires Inv-loop μ-loop
 goes-on-requires c κs =
     let l = c .before .before in
-    let s = l .before .before .before .before in
+    let s = l .before .before .before in
     let b = s .args .self in
     let v = l .loop in
     entry-good (s .args .arena .now) (s .args .out .now) b (s .pre .0) (v .out) (v .next) (v .i) (v .done) (v .inv) (c .before .loop-test .taken)
@@ -62,7 +59,7 @@ part-drain-end c = search needs
 drain-requires : tie.Need-drain-requires Inv-loop μ-loop
 drain-requires c κs =
     let l = c .before .before .before .before .before in
-    let s = l .before .before .before .before in
+    let s = l .before .before .before in
     let b = s .args .self in
     let v = l .loop in
     (entry-good (s .args .arena .now) (s .args .out .now) b (s .pre .0) (v .out) (v .next) (v .i) (v .done) (v .inv) (c .before .before .before .before .loop-test .taken), s .pre .1 .1)
@@ -70,7 +67,7 @@ drain-requires c κs =
 consume-requires : tie.Need-consume-requires Inv-loop μ-loop
 consume-requires c κs =
     let l = c .before .before .before .before .before .before .before .before in
-    let s = l .before .before .before .before in
+    let s = l .before .before .before in
     let b = s .args .self in
     let v = l .loop in
     entry-good (s .args .arena .now) (s .args .out .now) b (s .pre .0) (v .out) (v .next) (v .i) (v .done) (v .inv) (c .before .before .before .before .before .before .before .loop-test .taken)
@@ -105,7 +102,7 @@ add-done c = search needs
 len-requires : tie.Need-len-requires Inv-loop μ-loop
 len-requires c κs =
     let l = c .before .before .before .before .before .before .before .before .before .before .before .before in
-    let s = l .before .before .before .before in
+    let s = l .before .before .before in
     let b = s .args .self in
     let v = l .loop in
     let o = c .before .before .before .consume in
@@ -122,7 +119,7 @@ loop-less c = search needs
 loop-again : tie.Need-loop-again Inv-loop μ-loop
 loop-again c =
     let l = c .before .before .before .before .before .before .before .before .before .before .before .before .before .before in
-    let s = l .before .before .before .before in
+    let s = l .before .before .before in
     let b = s .args .self in
     let v = l .loop in
     let d = c .before .before .before .before .before .before .before .before .drain in
@@ -140,7 +137,7 @@ same-length-2 c = search needs
 returns-2 : tie.Need-returns-2 Inv-loop μ-loop
 returns-2 c =
     let l = c .before in
-    let s = l .before .before .before .before in
+    let s = l .before .before .before in
     let b = s .args .self in
     let v = l .loop in
     ends-behind (s .args .arena .now) (s .args .out .now) b (s .pre .0) (v .out) (v .next) (v .i) (v .done) (v .inv) (c .loop-test .left)
@@ -151,7 +148,7 @@ same-length-3 c = search needs
 returns-3 : tie.Need-returns-3 Inv-loop μ-loop
 returns-3 c =
     let l = c .before .before .before .before in
-    let s = l .before .before .before .before in
+    let s = l .before .before .before in
     let b = s .args .self in
     let v = l .loop in
     let off : (ltb 0 (length (v .out) - v .done) && eqb (start (getD (v .next .«data») (v .i) zeroBuf)) (front (viewOf b) + v .done)) ≡ false =
@@ -164,7 +161,7 @@ same-length-4 c = search needs
 returns-4 : tie.Need-returns-4 Inv-loop μ-loop
 returns-4 c =
     let l = c .before .before .before .before .before .before .before .before .before .before .before .before .before .before in
-    let s = l .before .before .before .before in
+    let s = l .before .before .before in
     let b = s .args .self in
     let v = l .loop in
     let d = c .before .before .before .before .before .before .before .before .drain in
@@ -183,7 +180,6 @@ copy-out-spec =
     (tie.spec
     Inv-loop
     μ-loop
-    first-requires
     loop-holds
     mul-buf
     element-copy-out-buf
