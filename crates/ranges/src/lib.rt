@@ -5,11 +5,11 @@
 // One form for the Rust's two (inline and tree). A range set never asks its caller for anything: a range that runs backwards is
 // refused, a full set loses its lowest range, or says so where that must not be (`try_insert`).
 ghost use mathlib.Core.Path.{_≡_};
-ghost use Prim.Native.Nat.{_+_, _-_, _≤_, _<_};
-ghost use lib.ListN.{length, drop, getD};
+ghost use Prim.Native.Nat.{_+_, _-_, _≤_};
+ghost use lib.ListN.{length, drop};
 ghost use mathlib.Core.List.{[]};
 ghost use Rattle.tables.specs.Lists.{spliceAt};
-ghost use Rattle.ranges.specs.State.{Good, ranges, setOf, zeroRange};
+ghost use Rattle.ranges.specs.State.{Good, ranges, setOf};
 ghost use Rattle.ranges.specs.Rules.{created, memberOf, rangeAt, firstOf, lastOf, isSingle, hull2, inserted, tried, pushed, removed};
 ghost use Rattle.ranges.specs.Steps.{lowCount, joinFrom, spotOf, goneCount};
 use refusal::Answer;

@@ -9,6 +9,9 @@
 //
 // The buffer goes into each call and comes back beside the answer. Every call answers; a refusal changes nothing. What each call
 // answers and leaves is one equation, to the definition of the same call in specs/Rules.antt.
+//
+// Most loops over the chunks first take the table out of the buffer, `let data = self.data;`: an index into the buffer itself would have
+// the compiler copy the acked set too.
 ghost use mathlib.Core.Path.{_≡_};
 ghost use Prim.Native.Nat.{_≤_, _<_, _+_, _-_, min};
 ghost use lib.ListN.{length, take, drop, getD};
@@ -704,6 +707,7 @@ impl SendBuf {
         while at < k {
             let n = piece(k - at);
             let off = self.off + at as u64;
+            // Never refused: the bytes end within the limit, and so within M.
             let made = RangeBuf::from(off, n as u64);
             let said = made.answer;
             let Answer::Done = said else {
