@@ -15,7 +15,7 @@ ghost use mathlib.Core.List.{[], _∷_, _++_};
 ghost use Prim.Native.Nat.{_+_, _-_, _≤_, _<_, min, max};
 ghost use lib.Dec.{ltb, eqb};
 ghost use lib.ListN.{length, take, drop, getD};
-ghost use Rattle.refusal.specs.Rules.{M, known, isAt, isOther, withSizes, finWith, withBytes};
+ghost use Rattle.refusal.specs.Rules.{M, known, isAt, finWith};
 ghost use Rattle.range_buf.specs.State.{Good as GoodChunk};
 ghost use Rattle.range_buf.specs.Rules.{start, end, avail, fresh, zeroBuf};
 ghost use Rattle.flowcontrol.specs.State.{Good as GoodFlow};

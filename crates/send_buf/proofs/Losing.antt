@@ -9,16 +9,16 @@ use Rattle.send_buf.proofs.Cutting.{total-le}
 use Rattle.send_buf.proofs.Good.{chunks-length, entry, next}
 use Rattle.send_buf.specs.Rules.{back, backBytes, backPos, dropCount, lossJudged, lost, movedBack, neverSent, retransmits, settled, withQueue}
 use Rattle.send_buf.specs.State.{Adjoin, Good, GoodSend, Send, base, bufOf, viewOf}
-use Rattle.send_buf.specs.Steps.{Inside, firstBytes, movedFirst, movedTo, relisted}
+use Rattle.send_buf.specs.Steps.{Inside, firstBytes, movedFirst, movedTo, relisted, relistedAt}
 use Rattle.send_buf.specs.declared.CountOutcome.{CountOutcome}
 use Rattle.send_buf.specs.declared.SendBuf.{SendBuf}
 use Rattle.tables.proofs.Tables.{cases, cond-elim}
-use borrow.Author.Tests.{le-leb, le-ltb, lt-leb, lt-ltb, ltb-false}
+use borrow.Author.Tests.{eqb-false, eqb-true, le-leb, le-ltb, lt-leb, lt-ltb, ltb-false, ltb-true, not-false, not-true}
 use denote.Enum.Declared.{tagOf}
-use lib.Dec.{ltb}
+use lib.Dec.{eqb, ltb}
 use lib.ListN.{List·getD-append, drop, getD, length, length-append, length-drop, take}
 use lib.Seq.{getD-drop, getD-take, length-take-le}
-use mathlib.Core.Bool.{Bool, _&&_, cond, false, true}
+use mathlib.Core.Bool.{Bool, _&&_, cond, false, not, true}
 use mathlib.Core.List.{List, [], _++_, _∷_}
 use mathlib.Core.Path.{_∙_, _≡_, ap, refl, sym}
 use native.Mathlib.Nat.{add-assoc, add-zero, zero-add}
@@ -149,7 +149,7 @@ module _ (a e : ℕ) (ok : a ≤ e) where
 -- ---- the chunks after a loss, entry by entry
 
 module _ (x : Lost) (l : List RangeBuf) where
-  pub relist-low : (i : ℕ) → x .at ≤ length l → i < x .at → getD (relisted x l) i zeroBuf ≡ movedTo (x .from) (getD l i zeroBuf)
+  relist-low : (i : ℕ) → x .at ≤ length l → i < x .at → getD (relisted x l) i zeroBuf ≡ movedTo (x .from) (getD l i zeroBuf)
   relist-low i h k =
       cond-elim (λ (y : List RangeBuf). getD y i zeroBuf ≡ movedTo (x .from) (getD l i zeroBuf)) (x .split)
       (λ _. let n : length (take (x .at) l) ≡ x .at = length-take-le (x .at) l h in
@@ -158,7 +158,7 @@ module _ (x : Lost) (l : List RangeBuf) where
       ∙ moved-low (x .at) (x .from) (take (x .at) l) i k (rw n k) ∙ ap (movedTo (x .from)) (getD-take (x .at) l i zeroBuf k))
       (λ _. moved-low (x .at) (x .from) l i k (omega arith))
 
-  pub relist-plain : (i : ℕ) → x .split ≡ false → x .at ≤ i → getD (relisted x l) i zeroBuf ≡ getD l i zeroBuf
+  relist-plain : (i : ℕ) → x .split ≡ false → x .at ≤ i → getD (relisted x l) i zeroBuf ≡ getD l i zeroBuf
   relist-plain i e h = ap (λ (t : Bool). getD (cond t (movedFirst (x .at) (x .from) (take (x .at) l) ++ x .left ∷ x .right ∷ drop (suc (x .at)) l) (movedFirst (x .at) (x .from) l)) i zeroBuf) e ∙ moved-high (x .at) (x .from) l i h
 
   -- behind the chunks moved back: the two parts, and the others
@@ -169,17 +169,28 @@ module _ (x : Lost) (l : List RangeBuf) where
       ∙ ap (λ (k : ℕ). getD (movedFirst (x .at) (x .from) (take (x .at) l) ++ x .left ∷ x .right ∷ drop (suc (x .at)) l) (k + j) zeroBuf) (sym n)
       ∙ getD-append-add (movedFirst (x .at) (x .from) (take (x .at) l)) (x .left ∷ x .right ∷ drop (suc (x .at)) l) j zeroBuf
 
-  pub relist-left : (i : ℕ) → x .split ≡ true → x .at ≤ length l → i ≡ x .at → getD (relisted x l) i zeroBuf ≡ x .left
+  relist-left : (i : ℕ) → x .split ≡ true → x .at ≤ length l → i ≡ x .at → getD (relisted x l) i zeroBuf ≡ x .left
   relist-left i e h k = ap (λ (m : ℕ). getD (relisted x l) m zeroBuf) (k ∙ sym (add-zero (x .at))) ∙ relist-high 0 e h
 
-  pub relist-right : (i : ℕ) → x .split ≡ true → x .at ≤ length l → i ≡ x .at + 1 → getD (relisted x l) i zeroBuf ≡ x .right
+  relist-right : (i : ℕ) → x .split ≡ true → x .at ≤ length l → i ≡ x .at + 1 → getD (relisted x l) i zeroBuf ≡ x .right
   relist-right i e h k = ap (λ (m : ℕ). getD (relisted x l) m zeroBuf) k ∙ relist-high 1 e h
 
-  pub relist-rest : (i : ℕ) → x .split ≡ true → x .at ≤ length l → x .at + 1 < i → getD (relisted x l) i zeroBuf ≡ getD l (i - 1) zeroBuf
+  relist-rest : (i : ℕ) → x .split ≡ true → x .at ≤ length l → x .at + 1 < i → getD (relisted x l) i zeroBuf ≡ getD l (i - 1) zeroBuf
   relist-rest i e h k =
       let m : i ≡ x .at + suc (suc (i - x .at - 2)) = omega arith in
       ap (λ (m : ℕ). getD (relisted x l) m zeroBuf) m ∙ relist-high (suc (suc (i - x .at - 2))) e h
       ∙ getD-drop (suc (x .at)) l (i - x .at - 2) zeroBuf ∙ ap (λ (m : ℕ). getD l m zeroBuf) (omega arith)
+
+  -- so each entry is computed from the one there and the one before it
+  pub relist-entry : (i : ℕ) (before : RangeBuf) → x .at ≤ length l → (0 < i → before ≡ getD l (i - 1) zeroBuf) → getD (relisted x l) i zeroBuf ≡ relistedAt x i (getD l i zeroBuf) before
+  relist-entry i before h p =
+      let P : RangeBuf → Type 0 = λ y. getD (relisted x l) i zeroBuf ≡ y in
+      cond-elim P (ltb i (x .at)) (λ a. relist-low i h (ltb-true i (x .at) a))
+      (λ a. cond-elim P (not (x .split)) (λ s. relist-plain i (not-true (x .split) s) (ltb-false i (x .at) a))
+      (λ s. cond-elim P (eqb i (x .at)) (λ b. relist-left i (not-false (x .split) s) h (eqb-true i (x .at) b))
+      (λ b. cond-elim P (eqb i (x .at + 1)) (λ d. relist-right i (not-false (x .split) s) h (eqb-true i (x .at + 1) d))
+      (λ d. let k : x .at + 1 < i = omega (arith, ltb-false i (x .at) a, eqb-false i (x .at) b, eqb-false i (x .at + 1) d) in
+      relist-rest i (not-false (x .split) s) h k ∙ sym (p (omega arith))))))
 
   pub length-split : x .split ≡ true → x .at < length l → length (relisted x l) ≡ length l + 1
   length-split e h =

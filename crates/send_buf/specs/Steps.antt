@@ -1,6 +1,6 @@
 -- The steps that the code takes: what the contracts of the private functions cite. `proofs/` shows that they come to what `Rules` says.
 use mathlib.Core.Path.{_≡_}
-use mathlib.Core.Bool.{Bool, true, false, cond}
+use mathlib.Core.Bool.{Bool, true, false, cond, not}
 use mathlib.Core.List.{List, [], _∷_, _++_}
 use Prim.Native.Nat.{ℕ, zero, suc, _+_, _-_, _≤_, _<_, max}
 use lib.Dec.{ltb, eqb}
@@ -178,6 +178,14 @@ relisted x l =
     cond (x .split)
     (movedFirst (x .at) (x .from) (take (x .at) l) ++ x .left ∷ x .right ∷ drop (suc (x .at)) l)
     (movedFirst (x .at) (x .from) l)
+
+-- its entry at i, where `here` was the one at i, and `before` the one before it
+abbrev pub relistedAt : Lost → ℕ → RangeBuf → RangeBuf → RangeBuf
+relistedAt x i here before =
+    cond (ltb i (x .at)) (movedTo (x .from) here) (
+    cond (not (x .split)) here (
+    cond (eqb i (x .at)) (x .left) (
+    cond (eqb i (x .at + 1)) (x .right) before)))
 
 -- a split that is refused goes up under its own number
 abbrev pub noRight : SplitAnswer → CountAnswer

@@ -20,10 +20,10 @@ ghost use Rattle.range_buf.specs.State.{Good as GoodChunk};
 ghost use Rattle.range_buf.specs.Rules.{start, avail, zeroBuf};
 ghost use lib.Dec.{ltb, leb, eqb};
 ghost use mathlib.Core.Bool.{cond, _&&_, _||_};
-ghost use mathlib.Core.List.{List, _++_};
+ghost use mathlib.Core.List.{_++_};
 ghost use Rattle.refusal.specs.Rules.{M, known, isAt, finWith};
 ghost use Rattle.send_buf.specs.State.{viewOf, bufOf, base, Good};
-ghost use Rattle.send_buf.specs.Steps.{setBlocked, setFin, setError, endedAt, bytesJudged, Fits, appended, without, movedTo, firstBytes, relisted, noRight, Inside, copiedOut, outAfter, sentTo, noBytes};
+ghost use Rattle.send_buf.specs.Steps.{setBlocked, setFin, setError, endedAt, bytesJudged, Fits, appended, without, movedTo, firstBytes, relisted, relistedAt, noRight, Inside, copiedOut, outAfter, sentTo, noBytes};
 ghost use Rattle.send_buf.specs.Rules.{ackOff, withQueue, otherArena, newSend, badNumbers, created, marked, accepted, passesFinal, noRoom, noEntry, writeJudged, written, writtenArena, front, first, emitted, emittedOut, acks, dropTo, dropCount, dropBytes, ackDrops, backPos, retransmits, resets, stops, shuts, raised, blockedAt, cap, isComplete};
 use range_buf::RangeBuf;
 use range_buf::SplitAnswer;
@@ -785,24 +785,21 @@ impl SendBuf {
         requires { ⌜ (n ≤ self .count) × (bytes ≤ self .«buffered_bytes») ⌝ }
         ensures { λ r. ⌜ r ≡ bufOf (without (viewOf self) n bytes) ⌝ }
     {
-        let count = self.count;
-        let mut data = self.data;
+        let left = self.count - n;
+        let old = self.data;
+        let mut data = [RangeBuf {
+            off: 0,
+            len: 0,
+            pos: 0,
+        }; 64];
         let mut i: usize = 0;
-        while i < count {
-            if n + i < count {
-                data[i] = data[n + i];
-            } else {
-                data[i] = RangeBuf {
-                    off: 0,
-                    len: 0,
-                    pos: 0,
-                };
-            }
+        while i < left {
+            data[i] = old[n + i];
             i += 1;
         }
         let mut next = self;
         next.data = data;
-        next.count = count - n;
+        next.count = left;
         next.pos = refusal::saturating_sub(self.pos as u64, n as u64) as usize;
         next.buffered_bytes = self.buffered_bytes - bytes;
         next
@@ -908,6 +905,7 @@ impl SendBuf {
         requires { ⌜ (lost .at ≤ self .count) × (self .count ≤ count) × (count ≡ length (relisted lost (viewOf self .chunks))) × (count ≤ 64) × (self .«buffered_bytes» + bytes ≤ M) ⌝ }
         ensures { λ r. ⌜ r ≡ bufOf (withQueue (viewOf self) (relisted lost (viewOf self .chunks)) pos (self .«buffered_bytes» + bytes)) ⌝ }
     {
+        let old = self.data;
         let mut data = self.data;
         let mut before = RangeBuf {
             off: 0,
@@ -916,7 +914,7 @@ impl SendBuf {
         };
         let mut i: usize = 0;
         while i < count {
-            let here = data[i];
+            let here = old[i];
             data[i] = relisted_at(lost, i, here, before);
             before = here;
             i += 1;
@@ -1119,7 +1117,7 @@ fn moved_to(buf: RangeBuf, off: u64) -> RangeBuf
 // The entry at i after a loss, where `here` is the one at i, and `before` the one before it.
 fn relisted_at(lost: Lost, i: usize, here: RangeBuf, before: RangeBuf) -> RangeBuf
     requires { ⌜ (i < 64) × (i < lost .at → GoodChunk here) ⌝ }
-    ensures { λ r. ⌜ ((l : List RangeBuf) → lost .at ≤ length l → getD l i zeroBuf ≡ here → (0 < i → getD l (i - 1) zeroBuf ≡ before) → r ≡ getD (relisted lost l) i zeroBuf) ⌝ }
+    ensures { λ r. ⌜ r ≡ relistedAt lost i here before ⌝ }
 {
     if i < lost.at {
         return moved_to(here, lost.from);

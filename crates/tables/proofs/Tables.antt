@@ -145,7 +145,7 @@ module _ {A : Type 0} where
         ∙ getD-drop b xs (i - a - 1) d
         ∙ ap (λ (k : ℕ). getD xs k d) (omega arith)
 
--- ---- a fill in place: the places below i hold the entries of l, and those from i on what they held in `old`
+-- ---- a fill that may end early: the places below i hold the entries of l, and those from i on what the table held at the start, `old`
 
 pub record Filling {A : Type 0} (z : A) (old l xs : List A) (i : ℕ) : Type 0 where
   pub long : length xs ≡ 64

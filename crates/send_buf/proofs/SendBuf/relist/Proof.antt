@@ -1,11 +1,13 @@
--- `SendBuf::relist` meets its contract. The invariant: the first i places hold the chunks after the loss, the others what they held, and `before`
--- is the chunk before i. Assumes nothing.
+-- `SendBuf::relist` meets its contract. The invariant: the first i places hold the chunks after the loss, and `before` is the chunk before i.
+-- Assumes nothing.
 use Prim.Native.Nat.{_+_, _-_, _<_, _≤_, ℕ}
 use Rattle.range_buf.specs.Rules.{zeroBuf}
 use Rattle.send_buf.proofs.Good.{acked-is, chunk-good, chunks-length, entry, made, slots, table}
 use Rattle.send_buf.specs.Rules.{withQueue}
 use Rattle.send_buf.specs.State.{viewOf}
-use Rattle.send_buf.specs.Steps.{relisted}
+use Rattle.send_buf.specs.Steps.{relisted, relistedAt}
+use Rattle.send_buf.proofs.Losing.{relist-entry}
+use Rattle.range_buf.specs.declared.RangeBuf.{RangeBuf}
 use Rattle.tables.proofs.Tables.{Filling, fill-ends, fill-more, fill-starts}
 use borrow.Author.Needs.{needs}
 use lib.ListN.{getD}
@@ -15,16 +17,17 @@ use Rattle.send_buf.proofs.SendBuf.relist.Statement.{statement}
 use Rattle.send_buf.proofs.SendBuf.relist.Tie as tie
 
 abbrev Inv-loop : tie.InvT-loop
-Inv-loop self lost count pos bytes data₀ before₀ i₀ «data» before i =
+Inv-loop self lost count pos bytes old data₀ before₀ i₀ «data» before i =
     (i ≤ count) × Filling zeroBuf (self .«data») (relisted lost (viewOf self .chunks)) «data» i × (0 < i → before ≡ getD (self .«data») (i - 1) zeroBuf)
 
 abbrev μ-loop : tie.MeasureT-loop
-μ-loop self lost count pos bytes data₀ before₀ i₀ «data» before i = count - i
+μ-loop self lost count pos bytes old data₀ before₀ i₀ «data» before i = count - i
 
 loop-holds : tie.Need-loop-holds Inv-loop μ-loop
 loop-holds c =
-    let b = c .before .args .self in
-    (search needs, fill-starts zeroBuf (b .«data») (relisted (c .before .args .lost) (viewOf b .chunks)) (slots b (c .before .pre .0)), λ h. absurd (omega arith))
+    let s = c .before .before in
+    let b = s .args .self in
+    (search needs, fill-starts zeroBuf (b .«data») (relisted (s .args .lost) (viewOf b .chunks)) (slots b (s .pre .0)), λ h. absurd (omega arith))
 
 mul-here : tie.Need-mul-here Inv-loop μ-loop
 mul-here c = search needs
@@ -35,9 +38,9 @@ array-copy-out-here c = search needs
 relisted-at-requires : tie.Need-relisted-at-requires Inv-loop μ-loop
 relisted-at-requires c κs =
     let a = c .before .before in
-    let s = a .before .before in
+    let s = a .before .before .before in
     let b = s .args .self in
-    (search needs, λ h. rw (a .loop .inv .1 .rest (a .loop .i) (omega arith)) (chunk-good b (s .pre .0) (a .loop .i) (omega (arith, s .pre .1 .0))))
+    (search needs, λ h. chunk-good b (s .pre .0) (a .loop .i) (omega (arith, s .pre .1 .0)))
 
 mul-data : tie.Need-mul-data Inv-loop μ-loop
 mul-data c = search needs
@@ -54,15 +57,16 @@ loop-less c = search needs
 loop-again : tie.Need-loop-again Inv-loop μ-loop
 loop-again c =
     let a = c .before .before .before in
-    let s = a .before .before in
+    let s = a .before .before .before in
     let b = s .args .self in
     let g = s .pre .0 in
-    let i = a .loop .i in
-    let here = a .loop .inv .1 .rest i (omega arith) in (
+    let x = s .args .lost in
+    let i = a .loop .i in (
       search needs,
-      fill-more zeroBuf (b .«data») (relisted (s .args .lost) (viewOf b .chunks)) (a .loop .«data») i (c .relisted-at .result) (a .loop .inv .1) (search needs)
-          (c .relisted-at .ensures (viewOf b .chunks) (rw (chunks-length b g) (s .pre .1 .0)) (entry b g i ∙ sym here) (λ h. entry b g (i - 1) ∙ sym (a .loop .inv .2 h))),
-      λ h. here ∙ ap (λ (k : ℕ). getD (b .«data») k zeroBuf) (omega arith),
+      fill-more zeroBuf (b .«data») (relisted x (viewOf b .chunks)) (a .loop .«data») i (c .relisted-at .result) (a .loop .inv .1) (search needs)
+          (c .relisted-at .ensures ∙ ap (λ (h : RangeBuf). relistedAt x i h (a .loop .before)) (sym (entry b g i))
+          ∙ sym (relist-entry x (viewOf b .chunks) i (a .loop .before) (rw (chunks-length b g) (s .pre .1 .0)) (λ h. a .loop .inv .2 h ∙ sym (entry b g (i - 1))))),
+      λ h. ap (λ (k : ℕ). getD (b .«data») k zeroBuf) (omega arith),
     )
 
 add-next : tie.Need-add-next Inv-loop μ-loop
@@ -71,7 +75,7 @@ add-next c = search needs
 returns : tie.Need-returns Inv-loop μ-loop
 returns c =
     let a = c .before .before in
-    let s = a .before .before in
+    let s = a .before .before .before in
     let b = s .args .self in
     let l = relisted (s .args .lost) (viewOf b .chunks) in
     made (withQueue (viewOf b) l (s .args .pos) (b .«buffered_bytes» + s .args .bytes)) (a .loop .«data») (s .args .count) (b .acked)
