@@ -1,6 +1,7 @@
 /* example.c: a few bytes go from a send buffer to a receive buffer, over a channel that loses the first frame.
  *
- *     cc -std=c11 example.c libstream_c.a -o example && ./example
+ *     ../../tools/staticlib          proves and builds the library, once
+ *     cc -std=c11 example.c ../../target/native/libstream_c.a -o example && ./example
  *
  * The sender writes the bytes, then closes the stream by a marked write of no bytes. It sends frames of at most five bytes. The first one
  * is lost, and the loss is noticed once the next frame has arrived: so the receiver keeps bytes behind a hole until the lost ones come

@@ -1,7 +1,7 @@
 /* valemkhor.h: a QUIC stream's send and receive buffer, for C.
  *
- * The functions are those of the static library libstream_c.a. Each of them is proved to give exactly what its definition says, for every
- * input: none of them allocates, keeps a pointer, panics, or fails to end.
+ * The functions are those of the static library libstream_c.a, which tools/staticlib makes. Each of them is proved to give exactly what its
+ * definition says, for every input: none of them allocates, keeps a pointer, panics, or fails to end.
  *
  * How to use it.
  *   - A state (a chunk, a window, a range set, a buffer) is a struct. It goes into a call by value and comes back by value: keep what comes
