@@ -1,7 +1,7 @@
 -- Document 01's worked examples of the window, about the definitions: each is one statement over a table of cases. Assumes nothing.
 use mathlib.Core.Path.{_≡_, refl}
 use mathlib.Core.Bool.{Bool, true, false}
-use mathlib.Core.List.{List, [], _∷_, map}
+use mathlib.Core.List.{[], _∷_, map}
 use Prim.Native.Nat.{ℕ}
 use Rattle.flowcontrol.specs.Rules.{fresh, withConsumed, committed, autotuned, due}
 

@@ -30,7 +30,7 @@ use Rattle.recv_buf.specs.State.{Recv}
 use Rattle.recv_buf.specs.Rules.{created, written}
 use Rattle.recv_buf.specs.Rfc9000.{Known, opened, Frame, endOf, Tells, Event, streamFrame, history, handedOut, Breaks, Lawful}
 use Rattle.flowcontrol.proofs.Steady.{Steady, fresh-steady}
-use Rattle.recv_buf.proofs.Runs.{Call, reset, Side, view, begin, answer, run}
+use Rattle.recv_buf.proofs.Runs.{Call, Side, view, begin, run}
 use Rattle.recv_buf.proofs.RfcLaws.{Coherent, coherent-opened, coherent-history}
 use Rattle.recv_buf.proofs.RfcState.{Sound, known-eq}
 use Rattle.recv_buf.proofs.RfcErrors.{ours-only, Wide, table-only}

@@ -20,7 +20,7 @@ use Rattle.arena.specs.Rules.{held}
 use Rattle.recv_buf.specs.declared.EmitOutcome.{EmitOutcome}
 use Rattle.recv_buf.specs.Rules.{otherArena, written, takes, takeJudged, discarded, emitted, emittedOut, resetJudged, resets, readable}
 use Rattle.recv_buf.specs.Rfc9000.{Known, Frame, endOf, Tells, TooLarge, FlowControlError, FinalSizeError, ResetSizeError, ResetOver, available, isAll}
-use Rattle.recv_buf.proofs.Runs.{reset, Side, view, answer}
+use Rattle.recv_buf.proofs.Runs.{Side, view}
 use Rattle.recv_buf.proofs.RfcState.{Sound}
 use Rattle.recv_buf.proofs.RfcErrors.{offset-exact, flow-exact, final-exact, reset-final-exact, reset-flow-exact}
 use Rattle.recv_buf.proofs.RfcEmit.{knows-emit, emit-refused, readable-exact}

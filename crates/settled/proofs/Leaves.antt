@@ -1,7 +1,7 @@
 -- Two wrong answers for each public function of `refusal`, `arena`, `range_buf`, `flowcontrol` and `ranges`: none meets its contract.
 -- A line is CASE never WRONG; the comment above a function's lines names it and says what is wrong. By computing. Assumes nothing.
 use mathlib.Core.Path.{refl}
-use mathlib.Core.Bool.{true, false}
+use mathlib.Core.Bool.{true}
 use mathlib.Core.List.{List, [], _∷_, _++_}
 use Prim.Native.Nat.{ℕ, _+_, _-_, min, max}
 use lib.Dec.{ltb}
@@ -22,7 +22,6 @@ use Rattle.range_buf.specs.Rules as chunk
 use Rattle.flowcontrol.specs.declared.FlowControl.{FlowControl}
 use Rattle.flowcontrol.specs.declared.Outcome.{Outcome as WindowOutcome}
 use Rattle.flowcontrol.specs.Rules as window
-use Rattle.ranges.specs.declared.Range.{Range}
 use Rattle.ranges.specs.declared.RangeSet.{RangeSet}
 use Rattle.ranges.specs.declared.Outcome.{Outcome as SetOutcome}
 use Rattle.ranges.specs.declared.OptionRange.{OptionRange}
@@ -30,7 +29,7 @@ use Rattle.ranges.specs.declared.OptionRange.the-variants.{None as NoRange, Som
 use Rattle.ranges.specs.State.{upto, setOf, ranges}
 use Rattle.ranges.specs.Rules as set
 use Rattle.settled.specs.Wrong.{Case, _never_, RuledOut, bit, numbers, maybe, chunkList, rangeList}
-use Rattle.settled.proofs.Ruled.{tested, by-computing}
+use Rattle.settled.proofs.Ruled.{by-computing}
 
 -- ---- refusal
 

@@ -5,7 +5,7 @@ use mathlib.Core.Bool.{true, false}
 use mathlib.Core.List.{List, [], _∷_, _++_}
 use Prim.Native.Nat.{ℕ, _+_}
 use lib.ListN.{replicate}
-use Rattle.refusal.specs.Rules.{M, told, toldCount, toldEmit, toldSizes, known, isAt}
+use Rattle.refusal.specs.Rules.{M, told, toldCount, toldEmit, toldSizes, isAt}
 use Rattle.arena.specs.Rules.{held}
 use Rattle.flowcontrol.specs.Rules.{next, fresh}
 use Rattle.recv_buf.specs.declared.Outcome.{Outcome}
@@ -15,7 +15,7 @@ use Rattle.recv_buf.specs.declared.SizesOutcome.{SizesOutcome}
 use Rattle.recv_buf.specs.State.{Recv, viewOf, bufOf}
 use Rattle.recv_buf.specs.Rules.{created, writeJudged, wrote, written, writtenArena, isReady, takeJudged, tookOut, discarded, emitted, emittedOut, resetJudged, wasReset, resets, shuts, commits, autotunes, flowBack, almostFull, readable}
 use Rattle.settled.specs.Wrong.{Case, _never_, RuledOut, bit, numbers, maybe, chunkList}
-use Rattle.settled.proofs.Ruled.{tested, by-computing}
+use Rattle.settled.proofs.Ruled.{by-computing}
 
 -- ---- the buffers: limit 12, maximum window 24, an arena of 16 bytes
 

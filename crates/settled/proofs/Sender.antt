@@ -7,7 +7,7 @@ use Prim.Native.Nat.{ℕ, _+_}
 use lib.Dec.{eqb}
 use lib.ListN.{length, replicate}
 use Rattle.refusal.specs.Rules.{M, told, toldCount, toldEmit, toldSizes, known, isAt}
-use Rattle.refusal.specs.declared.OptionU64.the-variants.{None, Some}
+use Rattle.refusal.specs.declared.OptionU64.the-variants.{Some}
 use Rattle.arena.specs.Rules.{kept, held}
 use Rattle.send_buf.specs.declared.Outcome.{Outcome}
 use Rattle.send_buf.specs.declared.CountOutcome.{CountOutcome}
@@ -16,7 +16,7 @@ use Rattle.send_buf.specs.declared.SizesOutcome.{SizesOutcome}
 use Rattle.send_buf.specs.State.{Send, viewOf, bufOf}
 use Rattle.send_buf.specs.Rules.{created, writeJudged, wrote, written, writtenArena, front, sent, emitted, emittedOut, ackJudged, ackedMore, acks, ackDrops, lossJudged, lost, retransmits, wasReset, resets, stops, shuts, raised, blockedAt, cap, isComplete, ackOff}
 use Rattle.settled.specs.Wrong.{Case, _never_, RuledOut, bit, numbers, maybe, chunkList, rangeList}
-use Rattle.settled.proofs.Ruled.{tested, by-computing}
+use Rattle.settled.proofs.Ruled.{by-computing}
 
 -- ---- the buffers: limit 20, an arena of 16 bytes; one with limit 10
 

@@ -1,7 +1,7 @@
 -- A contract is an equation: what a call gives is a definition of its arguments. A case puts numbers into that definition and reads off what it
 -- says as a list of numbers (an answer's number and values, what it leaves in the state); beside it stands what a wrong program would give.
 use mathlib.Core.Bool.{Bool, cond}
-use mathlib.Core.List.{List, [], _∷_, _++_}
+use mathlib.Core.List.{List, [], _∷_}
 use mathlib.Core.Logic.{_≢_}
 use Prim.Native.Nat.{ℕ}
 use Rattle.refusal.specs.Rules.{Told, listOf}

@@ -1,7 +1,5 @@
 -- `bad_room` meets its contract. Assumes nothing.
 use borrow.Author.Tests.{eq-eqb, ne-eqb}
-use Rattle.refusal.specs.Rules.{M}
-use Rattle.recv_buf.specs.Rules.{taken}
 use Rattle.recv_buf.proofs.bad_room.Statement.{statement}
 use Rattle.recv_buf.proofs.bad_room.Tie as tie
 

@@ -2,7 +2,6 @@
 use Rattle.flowcontrol.specs.declared.Outcome.{Outcome as FlowOutcome}
 use mathlib.Core.Path.{ap, _∙_}
 use borrow.Author.Needs.{needs}
-use Rattle.refusal.specs.Rules.{M}
 use Rattle.recv_buf.specs.State.{bufOf}
 use Rattle.recv_buf.specs.Steps.{emptyRecv}
 use Rattle.recv_buf.proofs.dead.Statement.{statement}

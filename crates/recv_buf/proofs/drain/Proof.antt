@@ -4,7 +4,6 @@ use Prim.Native.Nat.{ℕ, _-_, min}
 use native.Mathlib.Omega.{arith}
 use borrow.Author.Needs.{needs}
 use lib.ListN.{length, take}
-use Rattle.refusal.specs.Rules.{M}
 use Rattle.range_buf.specs.Rules.{start, avail}
 use Rattle.arena.specs.Rules.{handed}
 use Rattle.arena.proofs.Parts.{filled-front}

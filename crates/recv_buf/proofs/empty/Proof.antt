@@ -1,6 +1,5 @@
 -- `empty` meets its contract. Assumes nothing.
 use borrow.Author.Needs.{needs}
-use Rattle.refusal.specs.Rules.{M}
 use Rattle.recv_buf.specs.Steps.{emptyRecv}
 use Rattle.recv_buf.proofs.Pushing.{made-of}
 use Rattle.recv_buf.proofs.empty.Statement.{statement}

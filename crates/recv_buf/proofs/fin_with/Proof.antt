@@ -1,7 +1,5 @@
 -- `fin_with` meets its contract. Assumes nothing.
 use borrow.Author.Needs.{needs}
-use Rattle.refusal.specs.Rules.{M}
-use Rattle.recv_buf.specs.Rules.{taken}
 use Rattle.recv_buf.proofs.fin_with.Statement.{statement}
 use Rattle.recv_buf.proofs.fin_with.Tie as tie
 

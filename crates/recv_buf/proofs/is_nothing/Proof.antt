@@ -1,7 +1,5 @@
 -- `is_nothing` meets its contract. Assumes nothing.
 use borrow.Author.Tests.{eq-eqb, ne-eqb}
-use Rattle.refusal.specs.Rules.{M}
-use Rattle.recv_buf.specs.Rules.{taken}
 use Rattle.recv_buf.proofs.is_nothing.Statement.{statement}
 use Rattle.recv_buf.proofs.is_nothing.Tie as tie
 

@@ -3,9 +3,7 @@ use mathlib.Core.Path.{ap, _∙_}
 use Prim.Native.Nat.{_-_}
 use borrow.Author.Needs.{needs}
 use lib.ListN.{drop}
-use Rattle.refusal.specs.Rules.{M}
 use Rattle.arena.specs.Rules.{kept}
-use Rattle.recv_buf.specs.Rules.{taken}
 use Rattle.recv_buf.proofs.Keeping.{run-none, run-part}
 use Rattle.recv_buf.proofs.keep_run.Statement.{statement}
 use Rattle.recv_buf.proofs.keep_run.Tie as tie

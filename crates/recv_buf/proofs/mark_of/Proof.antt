@@ -2,8 +2,6 @@
 use mathlib.Core.Path.{_∙_}
 use mathlib.Core.List.{[]}
 use borrow.Author.Needs.{needs}
-use Rattle.refusal.specs.Rules.{M}
-use Rattle.recv_buf.specs.Rules.{taken}
 use Rattle.recv_buf.specs.Steps.{listed}
 use Rattle.recv_buf.proofs.Pushing.{push-listed}
 use Rattle.recv_buf.proofs.mark_of.Statement.{statement}

@@ -1,7 +1,5 @@
 -- `marks_other` meets its contract. Assumes nothing.
 use borrow.Author.Needs.{needs}
-use Rattle.refusal.specs.Rules.{M}
-use Rattle.recv_buf.specs.Rules.{taken}
 use Rattle.recv_buf.proofs.marks_other.Statement.{statement}
 use Rattle.recv_buf.proofs.marks_other.Tie as tie
 

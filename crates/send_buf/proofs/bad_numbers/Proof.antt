@@ -1,5 +1,4 @@
 -- `bad_numbers` meets its contract. Assumes nothing.
-use Rattle.refusal.specs.Rules.{M}
 use borrow.Author.Tests.{eq-eqb, le-ltb, lt-ltb, ne-eqb}
 use Rattle.send_buf.proofs.bad_numbers.Statement.{statement}
 use Rattle.send_buf.proofs.bad_numbers.Tie as tie

@@ -2,7 +2,6 @@
 use Prim.Native.Nat.{_-_, min}
 use Rattle.arena.specs.Rules.{handed}
 use Rattle.range_buf.specs.Rules.{avail, start}
-use Rattle.refusal.specs.Rules.{M}
 use Rattle.arena.proofs.Parts.{filled-front}
 use borrow.Author.Needs.{needs}
 use lib.ListN.{length, take}

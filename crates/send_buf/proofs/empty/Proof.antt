@@ -1,6 +1,5 @@
 -- `empty` meets its contract. Assumes nothing.
 use Rattle.ranges.specs.State.{setOf}
-use Rattle.refusal.specs.Rules.{M}
 use Rattle.send_buf.specs.State.{bufOf}
 use borrow.Author.Needs.{needs}
 use mathlib.Core.List.{[]}

@@ -1,6 +1,5 @@
 -- `goes_on` meets its contract. Assumes nothing.
 use Prim.Native.Nat.{_<_, _≤_}
-use Rattle.refusal.specs.Rules.{M}
 use borrow.Author.Needs.{needs}
 use borrow.Author.Tests.{le-ltb, lt-ltb}
 use native.Mathlib.Omega.{arith}

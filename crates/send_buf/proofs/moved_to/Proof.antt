@@ -1,7 +1,6 @@
 -- `moved_to` meets its contract. Assumes nothing.
 use Prim.Native.Nat.{_-_, _<_, _≤_, min}
 use Rattle.range_buf.specs.Rules.{end}
-use Rattle.refusal.specs.Rules.{M}
 use borrow.Author.Needs.{needs}
 use borrow.Author.Tests.{le-ltb, lt-ltb}
 use mathlib.Core.Path.{_≡_, sym}

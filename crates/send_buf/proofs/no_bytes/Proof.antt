@@ -1,5 +1,4 @@
 -- `no_bytes` meets its contract. Assumes nothing.
-use Rattle.refusal.specs.Rules.{M}
 use Rattle.send_buf.specs.Steps.{noBytes}
 use borrow.Author.Needs.{needs}
 use mathlib.Core.Path.{ap, sym}

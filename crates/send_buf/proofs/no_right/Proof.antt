@@ -1,5 +1,4 @@
 -- `no_right` meets its contract. Assumes nothing.
-use Rattle.refusal.specs.Rules.{M}
 use Rattle.send_buf.specs.Steps.{noRight}
 use borrow.Author.Needs.{needs}
 use mathlib.Core.Path.{ap, sym}

@@ -1,5 +1,4 @@
 -- `passes` meets its contract. Assumes nothing.
-use Rattle.refusal.specs.Rules.{M}
 use Rattle.send_buf.proofs.Writing.{passes-high, passes-low}
 use mathlib.Core.Path.{sym}
 use Rattle.send_buf.proofs.passes.Statement.{statement}

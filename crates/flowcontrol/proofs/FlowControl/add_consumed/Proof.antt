@@ -1,5 +1,5 @@
 -- `FlowControl::add_consumed` meets its contract. Assumes nothing.
-use mathlib.Core.Path.{_≡_, refl, sym, ap, _∙_}
+use mathlib.Core.Path.{sym, _∙_}
 use native.Mathlib.Omega.{arith}
 use borrow.Author.Tests.{ltb-false}
 use Prim.Native.Nat.{_+_, _≤_}

@@ -1,5 +1,5 @@
 -- `FlowControl::new` meets its contract. Assumes nothing.
-use mathlib.Core.Path.{_≡_, refl, sym, ap, _∙_}
+use mathlib.Core.Path.{sym, _∙_}
 use borrow.Author.Needs.{needs}
 use Rattle.flowcontrol.proofs.FlowControl.new.Statement.{statement}
 use Rattle.flowcontrol.proofs.FlowControl.new.Tie as tie

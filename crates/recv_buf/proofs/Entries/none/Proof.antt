@@ -1,6 +1,5 @@
 -- `Entries::none` meets its contract. Assumes nothing.
 use mathlib.Core.Path.{refl}
-use Rattle.refusal.specs.Rules.{M}
 use Rattle.recv_buf.specs.Steps.{listed}
 use Rattle.recv_buf.proofs.Entries.none.Statement.{statement}
 use Rattle.recv_buf.proofs.Entries.none.Tie as tie

@@ -1,8 +1,6 @@
 -- `Entries::push` meets its contract. Assumes nothing.
 use borrow.Author.Needs.{needs}
 use borrow.Author.Tests.{lt-ltb, le-ltb}
-use Rattle.refusal.specs.Rules.{M}
-use Rattle.recv_buf.specs.Rules.{taken}
 use Rattle.recv_buf.specs.Steps.{pushed}
 use Rattle.recv_buf.proofs.Entries.push.Statement.{statement}
 use Rattle.recv_buf.proofs.Entries.push.Tie as tie

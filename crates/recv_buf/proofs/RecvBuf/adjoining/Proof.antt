@@ -2,8 +2,6 @@
 use mathlib.Core.Path.{sym, _∙_}
 use Prim.Native.Nat.{_-_, _≤_}
 use borrow.Author.Needs.{needs}
-use Rattle.refusal.specs.Rules.{M}
-use Rattle.recv_buf.specs.Rules.{taken}
 use Rattle.recv_buf.proofs.Good.{few, next, chunk-good}
 use Rattle.recv_buf.proofs.Taking.{Adjoining, adjoins-begin, adjoins-end, adjoins-apart, adjoins-more}
 use Rattle.recv_buf.proofs.RecvBuf.adjoining.Statement.{statement}

@@ -1,7 +1,6 @@
 -- `RecvBuf::almost_full` meets its contract. Assumes nothing.
 use mathlib.Core.Path.{sym, _∙_}
 use borrow.Author.Needs.{needs}
-use Rattle.refusal.specs.Rules.{M}
 use Rattle.recv_buf.proofs.RecvBuf.almost_full.Statement.{statement}
 use Rattle.recv_buf.proofs.RecvBuf.almost_full.Tie as tie
 

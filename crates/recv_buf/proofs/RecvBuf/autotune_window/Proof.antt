@@ -1,7 +1,6 @@
 -- `RecvBuf::autotune_window` meets its contract. Assumes nothing.
 use mathlib.Core.Path.{refl}
 use borrow.Author.Needs.{needs}
-use Rattle.refusal.specs.Rules.{M}
 use Rattle.flowcontrol.specs.Rules.{autotuned}
 use Rattle.recv_buf.specs.State.{viewOf}
 use Rattle.recv_buf.specs.Rules.{withFlow, autotunes}

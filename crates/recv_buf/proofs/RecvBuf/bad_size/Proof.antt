@@ -1,8 +1,6 @@
 -- `RecvBuf::bad_size` meets its contract. Assumes nothing.
 use mathlib.Core.Path.{sym, _∙_}
 use borrow.Author.Needs.{needs}
-use Rattle.refusal.specs.Rules.{M}
-use Rattle.recv_buf.specs.Rules.{taken}
 use Rattle.recv_buf.proofs.RecvBuf.bad_size.Statement.{statement}
 use Rattle.recv_buf.proofs.RecvBuf.bad_size.Tie as tie
 

@@ -3,10 +3,8 @@ use lib.ListN.{List·getD-eq-default}
 use mathlib.Core.Path.{sym}
 use native.Mathlib.Omega.{arith}
 use borrow.Author.Needs.{needs}
-use Rattle.refusal.specs.Rules.{M}
 use Rattle.range_buf.specs.Rules.{zeroBuf}
 use Rattle.recv_buf.specs.State.{viewOf}
-use Rattle.recv_buf.specs.Rules.{taken}
 use Rattle.recv_buf.proofs.Good.{chunks-length, few, entry, chunk-good}
 use Rattle.recv_buf.proofs.RecvBuf.chunk.Statement.{statement}
 use Rattle.recv_buf.proofs.RecvBuf.chunk.Tie as tie

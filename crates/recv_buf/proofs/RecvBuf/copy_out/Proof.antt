@@ -2,7 +2,6 @@
 use Prim.Native.Nat.{_-_, _<_}
 use native.Mathlib.Omega.{arith}
 use borrow.Author.Needs.{needs}
-use Rattle.refusal.specs.Rules.{M}
 use Rattle.recv_buf.proofs.Copying.{Copying, copies-begin, copies-end, copies-in, copies-more}
 use Rattle.recv_buf.proofs.Good.{few, done, chunk-good}
 use Rattle.recv_buf.proofs.RecvBuf.copy_out.Statement.{statement}

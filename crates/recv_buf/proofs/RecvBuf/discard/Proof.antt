@@ -1,7 +1,6 @@
 -- `RecvBuf::discard` meets its contract. Assumes nothing.
 use mathlib.Core.Path.{sym, _∙_}
 use borrow.Author.Needs.{needs}
-use Rattle.refusal.specs.Rules.{M}
 use Rattle.recv_buf.specs.State.{viewOf}
 use Rattle.recv_buf.proofs.TakingOut.{discard-refused, discard-took}
 use Rattle.recv_buf.proofs.RecvBuf.discard.Statement.{statement}

@@ -3,9 +3,8 @@ use mathlib.Core.Path.{_≡_, sym, _∙_}
 use mathlib.Core.Bool.{false}
 use borrow.Author.Needs.{needs}
 use lib.ListN.{length}
-use Rattle.refusal.specs.Rules.{M}
 use Rattle.recv_buf.specs.State.{viewOf}
-use Rattle.recv_buf.specs.Rules.{otherArena, taken}
+use Rattle.recv_buf.specs.Rules.{otherArena}
 use Rattle.recv_buf.proofs.TakingOut.{emit-bad, emit-same, emit-refused, emit-count, emit-done}
 use Rattle.arena.proofs.Places.{right-arena}
 use Rattle.recv_buf.proofs.RecvBuf.emit.Statement.{statement}

@@ -4,10 +4,8 @@ use Prim.Native.Nat.{_-_, _≤_}
 use borrow.Author.Needs.{needs}
 use borrow.Author.Tests.{eq-eqb, ne-eqb}
 use lib.ListN.{drop, getD}
-use Rattle.refusal.specs.Rules.{M}
 use Rattle.range_buf.specs.Rules.{end, zeroBuf}
 use Rattle.recv_buf.specs.State.{viewOf}
-use Rattle.recv_buf.specs.Rules.{taken}
 use Rattle.recv_buf.specs.Steps.{endsAt}
 use Rattle.recv_buf.proofs.Good.{few, next, done, chunk-good}
 use Rattle.recv_buf.proofs.RecvBuf.ends_at.Statement.{statement}

@@ -1,5 +1,4 @@
 -- `RecvBuf::entries` meets its contract. Assumes nothing.
-use Rattle.refusal.specs.Rules.{M}
 use Rattle.recv_buf.proofs.Filling.{listed-whole}
 use Rattle.recv_buf.proofs.RecvBuf.entries.Statement.{statement}
 use Rattle.recv_buf.proofs.RecvBuf.entries.Tie as tie

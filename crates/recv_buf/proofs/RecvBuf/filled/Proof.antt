@@ -5,9 +5,7 @@ use Prim.Native.Nat.{_+_, _-_, _≤_}
 use native.Mathlib.Omega.{arith}
 use borrow.Author.Needs.{needs}
 use lib.ListN.{getD}
-use Rattle.refusal.specs.Rules.{M}
 use Rattle.range_buf.specs.Rules.{fresh, zeroBuf}
-use Rattle.recv_buf.specs.Rules.{taken}
 use Rattle.recv_buf.specs.Steps.{pushed}
 use Rattle.recv_buf.proofs.Filling.{Filling, fills-begin, fills-behind, fills-end, fills-last, fills-run, fills-mark, fills-chunk}
 use Rattle.recv_buf.proofs.Good.{few, chunk-good}

@@ -1,6 +1,5 @@
 -- `RecvBuf::grown` meets its contract. Assumes nothing.
 use borrow.Author.Needs.{needs}
-use Rattle.refusal.specs.Rules.{M}
 use Rattle.recv_buf.proofs.RecvBuf.grown.Statement.{statement}
 use Rattle.recv_buf.proofs.RecvBuf.grown.Tie as tie
 

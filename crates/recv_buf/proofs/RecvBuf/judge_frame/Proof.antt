@@ -9,7 +9,7 @@ use borrow.Author.Tests.{lt-ltb, le-ltb, ltb-false}
 use lib.Dec.{ltb}
 use Rattle.refusal.specs.Rules.{M}
 use Rattle.recv_buf.specs.State.{viewOf}
-use Rattle.recv_buf.specs.Rules.{otherArena, taken}
+use Rattle.recv_buf.specs.Rules.{otherArena}
 use Rattle.recv_buf.proofs.Judging.{first-passed, chunk-answer}
 use Rattle.recv_buf.proofs.Writing.{frame-bad, frame-offset, frame-over, frame-final, frame-room, frame-done}
 use Rattle.recv_buf.proofs.RecvBuf.judge_frame.Statement.{statement}

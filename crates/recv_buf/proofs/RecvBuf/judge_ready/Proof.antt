@@ -1,8 +1,6 @@
 -- `RecvBuf::judge_ready` meets its contract. Assumes nothing.
 use mathlib.Core.Path.{sym, _∙_}
 use borrow.Author.Needs.{needs}
-use Rattle.refusal.specs.Rules.{M}
-use Rattle.recv_buf.specs.Rules.{taken}
 use Rattle.recv_buf.proofs.TakingOut.{ready-done, ready-reset, ready-none}
 use Rattle.recv_buf.proofs.RecvBuf.judge_ready.Statement.{statement}
 use Rattle.recv_buf.proofs.RecvBuf.judge_ready.Tie as tie

@@ -7,7 +7,7 @@ use borrow.Author.Needs.{needs}
 use lib.Dec.{ltb}
 use Rattle.refusal.specs.Rules.{M}
 use Rattle.refusal.specs.declared.Answer.the-variants.{Done, Refused}
-use Rattle.recv_buf.specs.Rules.{taken, resetJudged}
+use Rattle.recv_buf.specs.Rules.{resetJudged}
 use Rattle.recv_buf.proofs.Judging.{first-refused, first-passed, chunk-answer}
 use Rattle.recv_buf.proofs.RecvBuf.judge_reset.Statement.{statement}
 use Rattle.recv_buf.proofs.RecvBuf.judge_reset.Tie as tie

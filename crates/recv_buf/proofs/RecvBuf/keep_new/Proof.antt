@@ -4,7 +4,6 @@ use mathlib.Core.Path.{_≡_, ap, _∙_}
 use Prim.Native.Nat.{ℕ, _+_, _-_, _≤_, min}
 use borrow.Author.Needs.{needs}
 use lib.ListN.{length, getD}
-use Rattle.refusal.specs.Rules.{M}
 use Rattle.range_buf.specs.Rules.{start, end, zeroBuf}
 use Rattle.arena.proofs.Laws.{length-kept}
 use Rattle.recv_buf.proofs.Good.{few, chunk-good}

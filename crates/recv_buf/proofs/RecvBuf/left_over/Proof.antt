@@ -5,11 +5,9 @@ use Prim.Native.Nat.{_+_, _-_, _≤_}
 use native.Mathlib.Omega.{arith}
 use borrow.Author.Needs.{needs}
 use lib.ListN.{drop, getD}
-use Rattle.refusal.specs.Rules.{M}
 use Rattle.range_buf.specs.Rules.{zeroBuf}
 use Rattle.recv_buf.specs.declared.Entries.{Entries}
 use Rattle.recv_buf.specs.State.{viewOf}
-use Rattle.recv_buf.specs.Rules.{taken}
 use Rattle.recv_buf.specs.Steps.{listed, pushedAll}
 use Rattle.recv_buf.proofs.Good.{few, next, done}
 use Rattle.recv_buf.proofs.Pushing.{store-in, push-all, front-listed, listed-count}

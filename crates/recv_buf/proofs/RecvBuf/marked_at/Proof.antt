@@ -2,13 +2,10 @@
 use mathlib.Core.Path.{sym, ap, _∙_}
 use native.Mathlib.Omega.{arith}
 use borrow.Author.Needs.{needs}
-use Rattle.refusal.specs.Rules.{M}
 use Rattle.range_buf.specs.Rules.{fresh}
 use Rattle.recv_buf.specs.State.{viewOf}
-use Rattle.recv_buf.specs.Rules.{taken}
 use Rattle.recv_buf.specs.Steps.{listed}
 use Rattle.recv_buf.proofs.Filling.{marked-there, marked-new}
-use Rattle.recv_buf.proofs.Good.{few}
 use Rattle.recv_buf.proofs.Pushing.{push-listed, listed-count}
 use Rattle.recv_buf.proofs.RecvBuf.marked_at.Statement.{statement}
 use Rattle.recv_buf.proofs.RecvBuf.marked_at.Tie as tie

@@ -2,8 +2,6 @@
 use mathlib.Core.Path.{sym, _∙_}
 use borrow.Author.Needs.{needs}
 use lib.ListN.{length}
-use Rattle.refusal.specs.Rules.{M}
-use Rattle.recv_buf.specs.Rules.{taken}
 use Rattle.recv_buf.proofs.Judging.{new-bad, new-refused, new-done}
 use Rattle.recv_buf.proofs.RecvBuf.new.Statement.{statement}
 use Rattle.recv_buf.proofs.RecvBuf.new.Tie as tie

@@ -1,8 +1,6 @@
 -- `RecvBuf::no_room` meets its contract. Assumes nothing.
 use borrow.Author.Needs.{needs}
 use borrow.Author.Tests.{lt-ltb, le-ltb}
-use Rattle.refusal.specs.Rules.{M}
-use Rattle.recv_buf.specs.Rules.{taken}
 use Rattle.recv_buf.proofs.RecvBuf.no_room.Statement.{statement}
 use Rattle.recv_buf.proofs.RecvBuf.no_room.Tie as tie
 

@@ -1,7 +1,5 @@
 -- `RecvBuf::other_arena` meets its contract. Assumes nothing.
 use borrow.Author.Tests.{eq-eqb, ne-eqb}
-use Rattle.refusal.specs.Rules.{M}
-use Rattle.recv_buf.specs.Rules.{taken}
 use Rattle.recv_buf.proofs.RecvBuf.other_arena.Statement.{statement}
 use Rattle.recv_buf.proofs.RecvBuf.other_arena.Tie as tie
 

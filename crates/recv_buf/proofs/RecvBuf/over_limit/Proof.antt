@@ -1,7 +1,6 @@
 -- `RecvBuf::over_limit` meets its contract. Assumes nothing.
 use mathlib.Core.Path.{sym, _∙_}
 use borrow.Author.Needs.{needs}
-use Rattle.refusal.specs.Rules.{M}
 use Rattle.recv_buf.proofs.RecvBuf.over_limit.Statement.{statement}
 use Rattle.recv_buf.proofs.RecvBuf.over_limit.Tie as tie
 

@@ -2,12 +2,10 @@
 use mathlib.Core.Path.{refl}
 use Prim.Native.Nat.{max}
 use borrow.Author.Needs.{needs}
-use Rattle.refusal.specs.Rules.{M, finWith}
-use Rattle.range_buf.specs.Rules.{end}
+use Rattle.refusal.specs.Rules.{finWith}
 use Rattle.recv_buf.specs.State.{viewOf}
 use Rattle.recv_buf.specs.Rules.{withEnds}
 use Rattle.recv_buf.specs.Steps.{listed}
-use Rattle.recv_buf.proofs.Good.{few}
 use Rattle.recv_buf.proofs.Pushing.{made-of}
 use Rattle.recv_buf.proofs.RecvBuf.passed_over.Statement.{statement}
 use Rattle.recv_buf.proofs.RecvBuf.passed_over.Tie as tie

@@ -2,8 +2,6 @@
 use mathlib.Core.Path.{sym, _∙_}
 use Prim.Native.Nat.{_-_, _≤_}
 use borrow.Author.Needs.{needs}
-use Rattle.refusal.specs.Rules.{M}
-use Rattle.recv_buf.specs.Rules.{taken}
 use Rattle.recv_buf.proofs.Good.{few, done, chunk-good}
 use Rattle.recv_buf.proofs.Taking.{Taking, takes-begin, takes-end, takes-apart, takes-full, takes-part, takes-whole}
 use Rattle.recv_buf.proofs.RecvBuf.reach.Statement.{statement}

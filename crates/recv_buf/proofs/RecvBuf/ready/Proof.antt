@@ -2,7 +2,6 @@
 use mathlib.Core.Path.{sym, ap}
 use mathlib.Core.List.{List}
 use borrow.Author.Needs.{needs}
-use Rattle.refusal.specs.Rules.{M}
 use Rattle.range_buf.specs.declared.RangeBuf.{RangeBuf}
 use Rattle.recv_buf.specs.Rules.{isReady}
 use Rattle.recv_buf.proofs.Good.{next, chunk-good}

@@ -2,9 +2,9 @@
 use mathlib.Core.Path.{_≡_, sym, _∙_}
 use mathlib.Core.Bool.{true, false}
 use borrow.Author.Needs.{needs}
-use Rattle.refusal.specs.Rules.{M, known}
+use Rattle.refusal.specs.Rules.{known}
 use Rattle.recv_buf.specs.State.{viewOf}
-use Rattle.recv_buf.specs.Rules.{isReady, taken}
+use Rattle.recv_buf.specs.Rules.{isReady}
 use Rattle.recv_buf.proofs.TakingOut.{refused-cleared, refused-same}
 use Rattle.recv_buf.proofs.RecvBuf.refused_take.Statement.{statement}
 use Rattle.recv_buf.proofs.RecvBuf.refused_take.Tie as tie

@@ -5,7 +5,7 @@ use borrow.Author.Needs.{needs}
 use Rattle.refusal.specs.Rules.{M}
 use Rattle.refusal.specs.declared.Answer.the-variants.{Done, Refused}
 use Rattle.recv_buf.specs.State.{viewOf}
-use Rattle.recv_buf.specs.Rules.{taken, resetJudged}
+use Rattle.recv_buf.specs.Rules.{resetJudged}
 use Rattle.recv_buf.proofs.Judging.{reset-refused, reset-again, reset-done, reset-in}
 use Rattle.recv_buf.proofs.RecvBuf.reset.Statement.{statement}
 use Rattle.recv_buf.proofs.RecvBuf.reset.Tie as tie

@@ -1,6 +1,5 @@
 -- `RecvBuf::set_flow_control` meets its contract. Assumes nothing.
 use mathlib.Core.Path.{refl}
-use Rattle.refusal.specs.Rules.{M}
 use Rattle.recv_buf.specs.State.{viewOf}
 use Rattle.recv_buf.specs.Rules.{withFlow, flowBack}
 use Rattle.recv_buf.proofs.Good.{same-table}

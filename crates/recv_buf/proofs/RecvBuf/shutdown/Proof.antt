@@ -1,7 +1,5 @@
 -- `RecvBuf::shutdown` meets its contract. Assumes nothing.
 use borrow.Author.Needs.{needs}
-use Rattle.refusal.specs.Rules.{M}
-use Rattle.recv_buf.specs.Rules.{taken}
 use Rattle.recv_buf.proofs.Judging.{shut-again, shut-done}
 use Rattle.recv_buf.proofs.RecvBuf.shutdown.Statement.{statement}
 use Rattle.recv_buf.proofs.RecvBuf.shutdown.Tie as tie

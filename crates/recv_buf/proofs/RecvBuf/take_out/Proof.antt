@@ -2,7 +2,6 @@
 use Rattle.range_buf.specs.Rules.{consumed}
 use mathlib.Core.Path.{ap, _∙_}
 use borrow.Author.Needs.{needs}
-use Rattle.refusal.specs.Rules.{M}
 use Rattle.range_buf.specs.declared.RangeBuf.{RangeBuf}
 use Rattle.recv_buf.proofs.TakingOut.{took-refused, cut-never, took-done}
 use Rattle.recv_buf.proofs.RecvBuf.take_out.Statement.{statement}

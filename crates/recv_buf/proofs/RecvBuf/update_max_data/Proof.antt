@@ -1,7 +1,6 @@
 -- `RecvBuf::update_max_data` meets its contract. Assumes nothing.
 use mathlib.Core.Path.{refl}
 use borrow.Author.Needs.{needs}
-use Rattle.refusal.specs.Rules.{M}
 use Rattle.flowcontrol.specs.Rules.{committed}
 use Rattle.recv_buf.specs.State.{viewOf}
 use Rattle.recv_buf.specs.Rules.{withFlow, commits}

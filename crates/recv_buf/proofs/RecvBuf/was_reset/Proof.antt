@@ -5,7 +5,6 @@ use Prim.Native.Nat.{_≤_}
 use borrow.Author.Needs.{needs}
 use lib.ListN.{length}
 use Rattle.tables.proofs.Tables.{cond-elim}
-use Rattle.refusal.specs.Rules.{M}
 use Rattle.refusal.specs.declared.OptionU64.the-variants.{Some}
 use Rattle.range_buf.specs.declared.RangeBuf.{RangeBuf}
 use Rattle.range_buf.specs.Rules.{fresh}

@@ -10,7 +10,7 @@ use lib.ListN.{length}
 use Rattle.refusal.specs.Rules.{M}
 use Rattle.refusal.specs.declared.Answer.the-variants.{Done, Refused}
 use Rattle.recv_buf.specs.State.{viewOf}
-use Rattle.recv_buf.specs.Rules.{filled, chunksAfter, taken}
+use Rattle.recv_buf.specs.Rules.{filled, chunksAfter}
 use Rattle.recv_buf.specs.Steps.{listed, frameJudged}
 use Rattle.recv_buf.proofs.Filling.{after-mark, after-bytes}
 use Rattle.recv_buf.proofs.Pushing.{listed-count}

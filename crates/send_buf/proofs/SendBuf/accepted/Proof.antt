@@ -1,6 +1,5 @@
 -- `SendBuf::accepted` meets its contract. Assumes nothing.
 use Prim.Native.Nat.{_+_}
-use Rattle.refusal.specs.Rules.{M}
 use Rattle.send_buf.proofs.Writing.{accepts, accepts-none}
 use Rattle.send_buf.specs.Rules.{ackOff}
 use Rattle.send_buf.specs.State.{viewOf}

@@ -3,7 +3,6 @@ use Prim.Native.Nat.{_+_}
 use Rattle.ranges.specs.Rules.{tried}
 use Rattle.ranges.specs.State.{ranges, setOf, upto}
 use Rattle.ranges.specs.declared.Range.{Range}
-use Rattle.refusal.specs.Rules.{M}
 use Rattle.refusal.specs.declared.Answer.the-variants.{Done, Refused}
 use Rattle.send_buf.proofs.Acking.{acks-done, acks-full, acks-unsent, joined, not-joined, refused}
 use Rattle.send_buf.proofs.Good.{acked-good, acked-is, count-is, made, table}

@@ -1,5 +1,4 @@
 -- `SendBuf::ack_and_drop` meets its contract. Assumes nothing.
-use Rattle.refusal.specs.Rules.{M}
 use Rattle.send_buf.proofs.Acking.{refused}
 use Rattle.send_buf.proofs.Dropping.{is-dropped, not-dropped, still-good}
 use Rattle.send_buf.specs.State.{viewOf}

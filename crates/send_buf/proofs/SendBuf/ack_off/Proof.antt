@@ -1,6 +1,5 @@
 -- `SendBuf::ack_off` meets its contract. Assumes nothing.
 use Rattle.ranges.specs.State.{ranges}
-use Rattle.refusal.specs.Rules.{M}
 use Rattle.send_buf.proofs.Asked.{ack-none, ack-some}
 use Rattle.send_buf.proofs.Good.{acked-good}
 use borrow.Author.Needs.{needs}

@@ -1,6 +1,5 @@
 -- `SendBuf::append` meets its contract. The invariant, `Going`: to cut and keep what is left gives what the contract says. Assumes nothing.
 use Prim.Native.Nat.{_+_, _-_}
-use Rattle.refusal.specs.Rules.{M}
 use Rattle.send_buf.proofs.Acking.{refused}
 use Rattle.send_buf.proofs.Cutting.{Going, ends, grown-made, made-fresh, starts, turns}
 use Rattle.send_buf.proofs.Good.{next}

@@ -2,7 +2,6 @@
 use Prim.Native.Nat.{_+_, _-_, _≤_, ℕ}
 use Rattle.range_buf.specs.Rules.{zeroBuf}
 use Rattle.range_buf.specs.declared.RangeBuf.{RangeBuf}
-use Rattle.refusal.specs.Rules.{M}
 use Rattle.send_buf.proofs.Good.{chunk-good, few}
 use Rattle.send_buf.proofs.Losing.{first-fits, first-next}
 use Rattle.send_buf.specs.State.{viewOf}

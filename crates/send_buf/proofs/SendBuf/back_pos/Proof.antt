@@ -1,7 +1,6 @@
 -- `SendBuf::back_pos` meets its contract. Assumes nothing.
 use Prim.Native.Nat.{_-_, min}
 use Rattle.range_buf.specs.Rules.{zeroBuf}
-use Rattle.refusal.specs.Rules.{M}
 use Rattle.send_buf.proofs.Losing.{not-below, pos-none, pos-some}
 use Rattle.send_buf.specs.Rules.{dropCount}
 use Rattle.send_buf.specs.State.{base, viewOf}

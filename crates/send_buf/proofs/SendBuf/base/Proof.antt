@@ -1,6 +1,5 @@
 -- `SendBuf::base` meets its contract. Assumes nothing.
 use Prim.Native.Nat.{_<_}
-use Rattle.refusal.specs.Rules.{M}
 use Rattle.send_buf.proofs.Good.{chunk-in}
 use Rattle.send_buf.proofs.Writing.{base-none, base-some}
 use borrow.Author.Needs.{needs}

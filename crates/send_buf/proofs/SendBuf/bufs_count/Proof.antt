@@ -1,5 +1,4 @@
 -- `SendBuf::bufs_count` meets its contract. Assumes nothing.
-use Rattle.refusal.specs.Rules.{M}
 use Rattle.send_buf.proofs.Good.{count-is}
 use Rattle.send_buf.proofs.SendBuf.bufs_count.Statement.{statement}
 use Rattle.send_buf.proofs.SendBuf.bufs_count.Tie as tie

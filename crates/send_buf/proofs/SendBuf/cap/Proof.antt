@@ -1,6 +1,6 @@
 -- `SendBuf::cap` meets its contract. Assumes nothing.
 use Prim.Native.Nat.{_-_}
-use Rattle.refusal.specs.Rules.{M, withCount}
+use Rattle.refusal.specs.Rules.{withCount}
 use Rattle.refusal.specs.declared.Answer.the-variants.{Done}
 use Rattle.refusal.specs.declared.OptionU64.{OptionU64}
 use Rattle.send_buf.specs.Rules.{unlessStopped}

@@ -1,7 +1,6 @@
 -- `SendBuf::copy_out` meets its contract. The invariant, `Emitting`: to copy on from here gives what the contract says. Assumes nothing.
 use Prim.Native.Nat.{_+_, _-_, _<_, _≤_}
 use Rattle.range_buf.specs.Rules.{avail, start, zeroBuf}
-use Rattle.refusal.specs.Rules.{M}
 use Rattle.send_buf.proofs.Acking.{refused}
 use Rattle.send_buf.proofs.Emitting.{Emitting, ate, emit-starts, ends-apart, ends-behind, ends-full, entry-good, full, part}
 use Rattle.range_buf.proofs.Kept.{used-good}

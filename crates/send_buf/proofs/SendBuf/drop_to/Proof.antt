@@ -1,5 +1,4 @@
 -- `SendBuf::drop_to` meets its contract. Assumes nothing.
-use Rattle.refusal.specs.Rules.{M}
 use borrow.Author.Needs.{needs}
 use borrow.Author.Tests.{le-leb, lt-leb}
 use Rattle.send_buf.proofs.SendBuf.drop_to.Statement.{statement}

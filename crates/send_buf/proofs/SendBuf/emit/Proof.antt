@@ -1,5 +1,4 @@
 -- `SendBuf::emit` meets its contract. Assumes nothing.
-use Rattle.refusal.specs.Rules.{M}
 use Rattle.send_buf.proofs.Emitting.{counts-on, emits, emits-bad, gives, not-count, sent-in}
 use Rattle.arena.proofs.Places.{right-arena}
 use Rattle.send_buf.specs.Rules.{emitCount}

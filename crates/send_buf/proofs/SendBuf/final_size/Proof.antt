@@ -1,5 +1,4 @@
 -- `SendBuf::final_size` meets its contract. Assumes nothing.
-use Rattle.refusal.specs.Rules.{M}
 use Rattle.send_buf.proofs.Writing.{marked-fits}
 use Rattle.send_buf.specs.State.{viewOf}
 use borrow.Author.Needs.{needs}

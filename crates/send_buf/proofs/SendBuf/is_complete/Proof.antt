@@ -1,6 +1,5 @@
 -- `SendBuf::is_complete` meets its contract. Assumes nothing.
 use Rattle.ranges.specs.State.{ranges}
-use Rattle.refusal.specs.Rules.{M}
 use Rattle.refusal.specs.declared.OptionU64.{OptionU64}
 use Rattle.send_buf.proofs.Good.{acked-good}
 use Rattle.send_buf.specs.Rules.{completeAt}

@@ -1,5 +1,4 @@
 -- `SendBuf::is_empty` meets its contract. Assumes nothing.
-use Rattle.refusal.specs.Rules.{M}
 use Rattle.send_buf.proofs.Good.{chunks-length}
 use Rattle.send_buf.proofs.SendBuf.is_empty.Statement.{statement}
 use Rattle.send_buf.proofs.SendBuf.is_empty.Tie as tie

@@ -1,5 +1,4 @@
 -- `SendBuf::judge_bytes` meets its contract. Assumes nothing.
-use Rattle.refusal.specs.Rules.{M}
 use Rattle.send_buf.specs.Steps.{bytesJudged}
 use borrow.Author.Needs.{needs}
 use mathlib.Core.Path.{_∙_, sym}

@@ -1,5 +1,4 @@
 -- `SendBuf::judge_write` meets its contract. Assumes nothing.
-use Rattle.refusal.specs.Rules.{M}
 use Rattle.send_buf.proofs.Writing.{judged-on, judged-stopped}
 use Rattle.send_buf.specs.Rules.{writeJudged}
 use Rattle.send_buf.specs.State.{viewOf}

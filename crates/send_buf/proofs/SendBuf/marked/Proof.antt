@@ -1,5 +1,4 @@
 -- `SendBuf::marked` meets its contract. Assumes nothing.
-use Rattle.refusal.specs.Rules.{M}
 use borrow.Author.Needs.{needs}
 use borrow.Author.Tests.{le-ltb, lt-ltb}
 use Rattle.send_buf.proofs.SendBuf.marked.Statement.{statement}

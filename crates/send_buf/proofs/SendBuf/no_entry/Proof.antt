@@ -1,5 +1,4 @@
 -- `SendBuf::no_entry` meets its contract. Assumes nothing.
-use Rattle.refusal.specs.Rules.{M}
 use Rattle.send_buf.proofs.Good.{chunks-length, few}
 use borrow.Author.Needs.{needs}
 use native.Mathlib.Omega.{arith}

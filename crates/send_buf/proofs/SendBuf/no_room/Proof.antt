@@ -1,5 +1,4 @@
 -- `SendBuf::no_room` meets its contract. Assumes nothing.
-use Rattle.refusal.specs.Rules.{M}
 use borrow.Author.Needs.{needs}
 use Rattle.send_buf.proofs.SendBuf.no_room.Statement.{statement}
 use Rattle.send_buf.proofs.SendBuf.no_room.Tie as tie

@@ -1,5 +1,4 @@
 -- `SendBuf::other_arena` meets its contract. Assumes nothing.
-use Rattle.refusal.specs.Rules.{M}
 use borrow.Author.Tests.{eq-eqb, ne-eqb}
 use Rattle.send_buf.proofs.SendBuf.other_arena.Statement.{statement}
 use Rattle.send_buf.proofs.SendBuf.other_arena.Tie as tie

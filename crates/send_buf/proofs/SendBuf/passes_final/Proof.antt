@@ -1,6 +1,5 @@
 -- `SendBuf::passes_final` meets its contract. Assumes nothing.
 use Prim.Native.Nat.{_+_}
-use Rattle.refusal.specs.Rules.{M}
 use Rattle.refusal.specs.declared.OptionU64.{OptionU64}
 use Rattle.send_buf.specs.Rules.{marked, passesFinal}
 use Rattle.send_buf.specs.State.{viewOf}

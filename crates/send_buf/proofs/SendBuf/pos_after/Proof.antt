@@ -1,5 +1,4 @@
 -- `SendBuf::pos_after` meets its contract. Assumes nothing.
-use Rattle.refusal.specs.Rules.{M}
 use borrow.Author.Tests.{eq-eqb, ne-eqb}
 use Rattle.send_buf.proofs.SendBuf.pos_after.Statement.{statement}
 use Rattle.send_buf.proofs.SendBuf.pos_after.Tie as tie

@@ -3,7 +3,6 @@ use Prim.Native.Nat.{ℕ}
 use Rattle.ranges.specs.Rules.{tried}
 use Rattle.ranges.specs.State.{ranges, setOf, upto}
 use Rattle.ranges.specs.declared.Range.{Range}
-use Rattle.refusal.specs.Rules.{M}
 use Rattle.send_buf.proofs.Acking.{does-join, joined, refused, reset-room, resets-at}
 use Rattle.send_buf.proofs.Good.{acked-good, acked-is}
 use Rattle.send_buf.specs.Rules.{cutOff}

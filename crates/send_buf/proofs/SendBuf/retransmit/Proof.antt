@@ -1,7 +1,6 @@
 -- `SendBuf::retransmit` meets its contract. Assumes nothing.
 use Prim.Native.Nat.{_+_}
 use Rattle.range_buf.specs.Rules.{zeroBuf}
-use Rattle.refusal.specs.Rules.{M}
 use Rattle.refusal.specs.declared.CountAnswer.the-variants.{Count}
 use Rattle.send_buf.proofs.Good.{few}
 use Rattle.send_buf.proofs.Losing.{is-lost, loss-in, loss-settled, loss-unsent, plain-bytes, plain-length, plain-list}

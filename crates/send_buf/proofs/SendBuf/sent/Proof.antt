@@ -1,5 +1,4 @@
 -- `SendBuf::sent` meets its contract. Assumes nothing.
-use Rattle.refusal.specs.Rules.{M}
 use borrow.Author.Needs.{needs}
 use Rattle.send_buf.proofs.SendBuf.sent.Statement.{statement}
 use Rattle.send_buf.proofs.SendBuf.sent.Tie as tie

@@ -1,5 +1,4 @@
 -- `SendBuf::shutdown` meets its contract. Assumes nothing.
-use Rattle.refusal.specs.Rules.{M}
 use Rattle.send_buf.proofs.Acking.{shuts-by, shuts-no}
 use Rattle.send_buf.specs.State.{viewOf}
 use borrow.Author.Needs.{needs}

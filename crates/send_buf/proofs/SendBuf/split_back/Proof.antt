@@ -1,7 +1,6 @@
 -- `SendBuf::split_back` meets its contract: the chunk is never too short for the split. Assumes nothing.
 use Prim.Native.Nat.{_+_, _-_}
 use Rattle.range_buf.specs.Rules.{rightPart, zeroBuf}
-use Rattle.refusal.specs.Rules.{M}
 use Rattle.send_buf.proofs.Good.{chunk-good, few}
 use Rattle.send_buf.proofs.Losing.{at-in, begins-low, is-lost, left-good, loss-end, loss-full, loss-in, not-right, split-bytes, split-full, split-is, split-length, split-list}
 use Rattle.send_buf.specs.State.{viewOf}

@@ -1,7 +1,6 @@
 -- `SendBuf::starts_at` meets its contract. Assumes nothing.
 use Prim.Native.Nat.{_<_, ℕ}
 use Rattle.range_buf.specs.Rules.{start, zeroBuf}
-use Rattle.refusal.specs.Rules.{M}
 use Rattle.send_buf.proofs.Asked.{front-at, front-end}
 use Rattle.send_buf.proofs.Good.{chunk-good, few}
 use Rattle.send_buf.specs.Rules.{first}

@@ -1,5 +1,4 @@
 -- `SendBuf::stop` meets its contract. Assumes nothing.
-use Rattle.refusal.specs.Rules.{M}
 use Rattle.send_buf.proofs.Acking.{stops-by}
 use Rattle.send_buf.specs.Rules.{stops}
 use Rattle.send_buf.specs.State.{viewOf}

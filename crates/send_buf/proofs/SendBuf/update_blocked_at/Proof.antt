@@ -1,5 +1,4 @@
 -- `SendBuf::update_blocked_at` meets its contract. Assumes nothing.
-use Rattle.refusal.specs.Rules.{M}
 use Rattle.send_buf.specs.Rules.{blockedAt}
 use Rattle.send_buf.specs.State.{bufOf}
 use Rattle.send_buf.specs.Steps.{setBlocked}

@@ -1,5 +1,4 @@
 -- `SendBuf::write` meets its contract. Assumes nothing.
-use Rattle.refusal.specs.Rules.{M}
 use Rattle.send_buf.proofs.Acking.{refused}
 use Rattle.send_buf.proofs.Cutting.{is-written, not-written, write-fits}
 use Rattle.send_buf.specs.State.{viewOf}
