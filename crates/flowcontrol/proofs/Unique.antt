@@ -6,6 +6,7 @@ use Rattle.tables.proofs.Tables.{no-second}
 use Rattle.refusal.specs.declared.Answer.{Answer}
 use Rattle.flowcontrol.specs.declared.FlowControl.{FlowControl}
 use Rattle.flowcontrol.specs.declared.Outcome.{Outcome}
+use Rattle.flowcontrol.specs.Check.{goodBy}
 use Rattle.flowcontrol.specs.Rules.{created, consumedMore, due, next, committed, autotuned, atLeast}
 
 pub new-unique : (limit window maximum : ℕ) (p q : Outcome) → p ≡ created limit window maximum → q ≡ created limit window maximum → p ≡ q
@@ -16,9 +17,6 @@ window-unique f = no-second
 
 pub max-data-unique : (f : FlowControl) (p q : ℕ) → p ≡ f .«max_data» → q ≡ f .«max_data» → p ≡ q
 max-data-unique f = no-second
-
-pub consumed-unique : (f : FlowControl) (p q : ℕ) → p ≡ f .consumed → q ≡ f .consumed → p ≡ q
-consumed-unique f = no-second
 
 pub add-consumed-unique : (f : FlowControl) (n : ℕ) (p q : Outcome) → p ≡ consumedMore f n → q ≡ consumedMore f n → p ≡ q
 add-consumed-unique f n = no-second
@@ -51,3 +49,6 @@ commit-unique f now p q x y d e h k = (no-second p q d e, no-second x y h k)
 pub autotune-unique : (f : FlowControl) (now rtt p q : ℕ) (x y : FlowControl)
     → p ≡ autotuned f now rtt .window → q ≡ autotuned f now rtt .window → x ≡ autotuned f now rtt → y ≡ autotuned f now rtt → (p ≡ q) × (x ≡ y)
 autotune-unique f now rtt p q x y d e h k = (no-second p q d e, no-second x y h k)
+
+pub is-good-unique : (f : FlowControl) (p q : Bool) → p ≡ goodBy f → q ≡ goodBy f → p ≡ q
+is-good-unique f = no-second

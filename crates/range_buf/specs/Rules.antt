@@ -1,13 +1,15 @@
 -- One chunk (document 01, "What is carried over" and refusal 1): off is where it begins, len its whole length, pos the consumed part.
 -- Sums are whole numbers. `cond t x y` is x if the test t holds, else y.
 use mathlib.Core.Bool.{Bool, cond}
+use mathlib.Core.List.{[], _∷_}
 use Prim.Native.Nat.{ℕ, _+_, _-_, min}
 use lib.Dec.{ltb, eqb}
-use Rattle.refusal.specs.Rules.{M}
+use Rattle.refusal.specs.Rules.{M, Told, success, refusal}
 use Rattle.refusal.specs.declared.Answer.the-variants.{Done, Refused}
 use Rattle.refusal.specs.declared.Refusal.the-variants.{Offset}
 use Rattle.range_buf.specs.declared.RangeBuf.{RangeBuf}
 use Rattle.range_buf.specs.declared.Outcome.{Outcome}
+use Rattle.range_buf.specs.declared.SplitAnswer.{SplitAnswer}
 use Rattle.range_buf.specs.declared.SplitAnswer.the-variants.{Right, Refused as NoSplit}
 use Rattle.range_buf.specs.declared.SplitOutcome.{SplitOutcome}
 
@@ -60,3 +62,8 @@ abbrev pub split : RangeBuf → ℕ → SplitOutcome
 split b n =
     cond (ltb (b .len) n) (record { answer = NoSplit Offset; buf = b })
     (record { answer = Right (rightPart b n); buf = leftPart b n })
+
+-- what a split says, as every kind of answer does: a refusal's number, or 0 with the right part's offset, length and consumed part
+abbrev pub toldSplit : SplitAnswer → Told
+toldSplit (Right b) = success (b .off ∷ b .len ∷ b .pos ∷ [])
+toldSplit (NoSplit why) = refusal why

@@ -10,7 +10,8 @@ use Rattle.ranges.specs.declared.RangeSet.{RangeSet}
 use Rattle.ranges.specs.declared.Outcome.{Outcome}
 use Rattle.ranges.specs.declared.OptionRange.{OptionRange}
 use Rattle.ranges.specs.State.{Good, ranges, setOf}
-use Rattle.ranges.specs.Rules.{created, memberOf, rangeAt, firstOf, lastOf, isSingle, inserted, tried, pushed, removed}
+use Rattle.ranges.specs.Check.{goodBy}
+use Rattle.ranges.specs.Rules.{created, memberOf, rangeAt, lastOf, isSingle, inserted, tried, pushed, removed}
 use Rattle.ranges.proofs.Good.{is-set}
 
 -- a good set is its capacity and its ranges
@@ -29,9 +30,6 @@ contains-unique s v = no-second
 pub get-unique : (s : RangeSet) (i : ℕ) (p q : OptionRange) → p ≡ rangeAt i (ranges s) → q ≡ rangeAt i (ranges s) → p ≡ q
 get-unique s i = no-second
 
-pub first-unique : (s : RangeSet) (p q : OptionU64) → p ≡ firstOf (ranges s) → q ≡ firstOf (ranges s) → p ≡ q
-first-unique s = no-second
-
 pub last-unique : (s : RangeSet) (p q : OptionU64) → p ≡ lastOf (ranges s) → q ≡ lastOf (ranges s) → p ≡ q
 last-unique s = no-second
 
@@ -49,3 +47,6 @@ push-item-unique s v = no-second
 
 pub remove-until-unique : (s : RangeSet) (v : ℕ) (p q : RangeSet) → p ≡ removed s v → q ≡ removed s v → p ≡ q
 remove-until-unique s v = no-second
+
+pub is-good-unique : (s : RangeSet) (p q : Bool) → p ≡ goodBy s → q ≡ goodBy s → p ≡ q
+is-good-unique s = no-second

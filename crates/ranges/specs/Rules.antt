@@ -36,11 +36,6 @@ memberOf v (r ∷ rs) = cond (leb (r .start) v && ltb v (r .end)) true (memberOf
 abbrev pub rangeAt : ℕ → List Range → OptionRange
 rangeAt i l = cond (ltb i (length l)) (SomeRange (getD l i zeroRange)) NoRange
 
--- the start of the lowest range
-abbrev pub firstOf : List Range → OptionU64
-firstOf [] = None
-firstOf (r ∷ rs) = Some (r .start)
-
 -- the number before a range's end; none before 0
 abbrev pub endBefore : Range → OptionU64
 endBefore r = cond (eqb (r .end) 0) None (Some (r .end - 1))

@@ -14,6 +14,7 @@ use Rattle.recv_buf.specs.declared.CountOutcome.{CountOutcome}
 use Rattle.recv_buf.specs.declared.EmitOutcome.{EmitOutcome}
 use Rattle.recv_buf.specs.declared.SizesOutcome.{SizesOutcome}
 use Rattle.recv_buf.specs.State.{viewOf, bufOf, Good}
+use Rattle.recv_buf.specs.Check.{goodBy}
 use Rattle.recv_buf.specs.Rules.{created, written, writtenArena, emitted, emittedOut, discarded, resets, shuts, commits, autotunes, flowBack, almostFull, isReady, readable}
 use Rattle.refusal.specs.Rules.{isAt}
 
@@ -101,3 +102,6 @@ module _ (b : RecvBuf) where
 
   pub readable-len-unique : (most p q : ℕ) → p ≡ readable (viewOf b) most → q ≡ readable (viewOf b) most → p ≡ q
   readable-len-unique most p q = no-second p q
+
+pub is-good-unique : (b : RecvBuf) (p q : Bool) → p ≡ goodBy b → q ≡ goodBy b → p ≡ q
+is-good-unique b = no-second

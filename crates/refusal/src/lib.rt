@@ -203,21 +203,21 @@ impl SizesAnswer {
 
 // The lesser of two numbers.
 pub fn least(a: u64, b: u64) -> u64
-    ensures { λ r. ⌜ (r ≡ min a b) × (r ≤ a) × (r ≤ b) ⌝ }
+    ensures { λ r. ⌜ r ≡ min a b ⌝ }
 {
     if a < b { a } else { b }
 }
 
 // The greater of two numbers.
 pub fn most(a: u64, b: u64) -> u64
-    ensures { λ r. ⌜ (r ≡ max a b) × (a ≤ r) × (b ≤ r) ⌝ }
+    ensures { λ r. ⌜ r ≡ max a b ⌝ }
 {
     if a < b { b } else { a }
 }
 
 // What is left of `a` without `b`: nothing where that is more.
 pub fn saturating_sub(a: u64, b: u64) -> u64
-    ensures { λ r. ⌜ (r ≡ a - b) × (r ≤ a) ⌝ }
+    ensures { λ r. ⌜ r ≡ a - b ⌝ }
 {
     if a < b { 0 } else { a - b }
 }

@@ -15,6 +15,7 @@ use Rattle.send_buf.specs.declared.CountOutcome.{CountOutcome}
 use Rattle.send_buf.specs.declared.EmitOutcome.{EmitOutcome}
 use Rattle.send_buf.specs.declared.SizesOutcome.{SizesOutcome}
 use Rattle.send_buf.specs.State.{viewOf, bufOf, Good}
+use Rattle.send_buf.specs.Check.{goodBy}
 use Rattle.send_buf.specs.Rules.{ackOff, created, written, writtenArena, front, emitted, emittedOut, acks, ackDrops, retransmits, resets, stops, shuts, raised, blockedAt, cap as capOf, isComplete}
 use Rattle.refusal.specs.Rules.{known, isAt}
 
@@ -104,3 +105,6 @@ module _ (b : SendBuf) where
 
   pub blocked-at-unique : (p q : OptionU64) → p ≡ viewOf b .blocked → q ≡ viewOf b .blocked → p ≡ q
   blocked-at-unique = no-second
+
+pub is-good-unique : (b : SendBuf) (p q : Bool) → p ≡ goodBy b → q ≡ goodBy b → p ≡ q
+is-good-unique b = no-second

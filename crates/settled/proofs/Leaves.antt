@@ -5,7 +5,8 @@ use mathlib.Core.Bool.{true}
 use mathlib.Core.List.{List, [], _∷_, _++_}
 use Prim.Native.Nat.{ℕ, _+_, _-_, min, max}
 use lib.Dec.{ltb}
-use lib.ListN.{length}
+use lib.ListN.{length, replicate}
+use Rattle.tables.specs.Checks.{tableBy}
 use Rattle.refusal.specs.Rules.{M, numberOf, codeOf, told, toldCount, toldEmit, toldSizes, withCount, withBytes, withSizes, known, isAt, isOther}
 use Rattle.refusal.specs.declared.Answer.the-variants.{Done, Refused}
 use Rattle.refusal.specs.declared.CountAnswer.the-variants.{Count}
@@ -16,18 +17,19 @@ use Rattle.refusal.specs.declared.OptionU64.the-variants.{None, Some}
 use Rattle.arena.specs.Rules.{kept, held, handed}
 use Rattle.range_buf.specs.declared.RangeBuf.{RangeBuf}
 use Rattle.range_buf.specs.declared.Outcome.{Outcome as ChunkOutcome}
-use Rattle.range_buf.specs.declared.SplitAnswer.{SplitAnswer}
-use Rattle.range_buf.specs.declared.SplitAnswer.the-variants.{Right, Refused as NoSplit}
 use Rattle.range_buf.specs.Rules as chunk
+use Rattle.range_buf.specs.Check.{isZero, goodBy as goodChunk}
 use Rattle.flowcontrol.specs.declared.FlowControl.{FlowControl}
 use Rattle.flowcontrol.specs.declared.Outcome.{Outcome as WindowOutcome}
 use Rattle.flowcontrol.specs.Rules as window
+use Rattle.flowcontrol.specs.Check.{goodBy as goodWindow}
 use Rattle.ranges.specs.declared.RangeSet.{RangeSet}
 use Rattle.ranges.specs.declared.Outcome.{Outcome as SetOutcome}
 use Rattle.ranges.specs.declared.OptionRange.{OptionRange}
 use Rattle.ranges.specs.declared.OptionRange.the-variants.{None as NoRange, Some as SomeRange}
 use Rattle.ranges.specs.State.{upto, setOf, ranges}
 use Rattle.ranges.specs.Rules as set
+use Rattle.ranges.specs.Check.{goodBy as goodSet}
 use Rattle.settled.specs.Wrong.{Case, _never_, RuledOut, bit, numbers, maybe, chunkList, rangeList}
 use Rattle.settled.proofs.Ruled.{by-computing}
 
@@ -100,10 +102,6 @@ arenas =
 abbrev six : RangeBuf
 six = record { off = 10; len = 6; pos = 2 }
 
-abbrev right : SplitAnswer → List ℕ
-right (Right b) = 0 ∷ chunkList (b ∷ [])
-right (NoSplit why) = numberOf why ∷ []
-
 abbrev chunkSaid : ChunkOutcome → List ℕ
 chunkSaid o = numbers (told (o .answer)) ++ chunkList (o .buf ∷ [])
 
@@ -128,8 +126,15 @@ chunks =
     ∷ (chunkSaid (chunk.consumed six 4) never (1 ∷ 10 ∷ 6 ∷ 2 ∷ []))
     ∷ (chunkSaid (chunk.consumed six 5) never (0 ∷ 10 ∷ 6 ∷ 7 ∷ []))
     -- split_off: the right part forgets what was consumed; the left part keeps more than it has
-    ∷ (right (chunk.split six 1 .answer) never (0 ∷ 11 ∷ 5 ∷ 0 ∷ []))
+    ∷ (numbers (chunk.toldSplit (chunk.split six 1 .answer)) never (0 ∷ 11 ∷ 5 ∷ 0 ∷ []))
     ∷ (chunkList (chunk.split six 1 .buf ∷ []) never (10 ∷ 1 ∷ 2 ∷ []))
+    -- is_good: a good chunk refused; one consumed past its end let through
+    ∷ (bit (goodChunk six) never (0 ∷ []))
+    ∷ (bit (goodChunk (record { off = 10; len = 1; pos = 2 })) never (1 ∷ []))
+    -- is_table: an empty table refused; a count of 65 let through; an unused entry that is not zero let through
+    ∷ (bit (tableBy isZero 0 (replicate 64 chunk.zeroBuf)) never (0 ∷ []))
+    ∷ (bit (tableBy isZero 65 (replicate 64 chunk.zeroBuf)) never (1 ∷ []))
+    ∷ (bit (tableBy isZero 0 (replicate 63 chunk.zeroBuf ++ six ∷ [])) never (1 ∷ []))
     ∷ []
 
 -- ---- flowcontrol: limit 16, window 16, maximum 24, 9 consumed
@@ -149,13 +154,11 @@ windows =
     -- new: a window above its maximum; a limit above M let through
     (windowSaid (window.created 16 99 24) never (0 ∷ 0 ∷ 16 ∷ 99 ∷ 24 ∷ []))
     ∷ (windowSaid (window.created (M + 1) 16 24) never (0 ∷ 0 ∷ (M + 1) ∷ 16 ∷ 24 ∷ []))
-    -- window, max_data, consumed: one of the others
+    -- window, max_data: one of the others
     ∷ ((window.committed nine 0 .window ∷ []) never (25 ∷ []))
     ∷ ((window.committed nine 0 .window ∷ []) never (24 ∷ []))
     ∷ ((window.committed nine 0 .«max_data» ∷ []) never (16 ∷ []))
     ∷ ((window.committed nine 0 .«max_data» ∷ []) never (9 ∷ []))
-    ∷ ((nine .consumed ∷ []) never (16 ∷ []))
-    ∷ ((nine .consumed ∷ []) never (7 ∷ []))
     -- add_consumed: counted twice; a total above M let through
     ∷ (windowSaid (window.consumedMore nine 2) never (0 ∷ 13 ∷ 16 ∷ 16 ∷ 24 ∷ []))
     ∷ (windowSaid (window.consumedMore nine M) never (0 ∷ (M + 9) ∷ 16 ∷ 16 ∷ 24 ∷ []))
@@ -183,6 +186,9 @@ windows =
     -- lent::autotune, the answer first: the window before it answered; the new one answered and not stored
     ∷ ((window.autotuned (window.committed nine 100) 119 10 .window ∷ flow (window.autotuned (window.committed nine 100) 119 10)) never (16 ∷ 9 ∷ 25 ∷ 24 ∷ 24 ∷ 100 ∷ []))
     ∷ ((window.autotuned (window.committed nine 100) 119 10 .window ∷ flow (window.autotuned (window.committed nine 100) 119 10)) never (24 ∷ 9 ∷ 25 ∷ 16 ∷ 24 ∷ 100 ∷ []))
+    -- is_good: a good window refused; one above its maximum let through
+    ∷ (bit (goodWindow nine) never (0 ∷ []))
+    ∷ (bit (goodWindow (record { consumed = 9; «max_data» = 16; window = 25; «max_window» = 24; «last_update» = None })) never (1 ∷ []))
     ∷ []
 
 -- ---- ranges: 10..12 and 20..22, capacity 2
@@ -211,9 +217,6 @@ sets =
     -- get: the range before; one past the last
     ∷ (rangeSaid (set.rangeAt 1 (ranges two)) never (10 ∷ 12 ∷ []))
     ∷ (rangeSaid (set.rangeAt 2 (ranges two)) never (0 ∷ 0 ∷ []))
-    -- first: an end; the start of the last
-    ∷ (maybe (set.firstOf (ranges two)) never (12 ∷ []))
-    ∷ (maybe (set.firstOf (ranges two)) never (20 ∷ []))
     -- last: the end itself; of 0..0 a number
     ∷ (maybe (set.lastOf (ranges two)) never (22 ∷ []))
     ∷ (maybe (set.lastOf (upto 0 0 ∷ [])) never (0 ∷ []))
@@ -232,6 +235,10 @@ sets =
     -- remove_until: the number itself stays; the whole range goes
     ∷ (rangeList (ranges (set.removed two 10)) never (10 ∷ 12 ∷ 20 ∷ 22 ∷ []))
     ∷ (rangeList (ranges (set.removed two 10)) never (20 ∷ 22 ∷ []))
+    -- is_good: a good set refused; one whose ranges touch let through; one of capacity 0 let through
+    ∷ (bit (goodSet two) never (0 ∷ []))
+    ∷ (bit (goodSet (setOf 2 (upto 10 12 ∷ upto 12 22 ∷ []))) never (1 ∷ []))
+    ∷ (bit (goodSet (setOf 0 [])) never (1 ∷ []))
     ∷ []
 
 pub refusals-settled : RuledOut refusals

@@ -13,7 +13,8 @@ use Rattle.recv_buf.specs.declared.CountOutcome.{CountOutcome}
 use Rattle.recv_buf.specs.declared.EmitOutcome.{EmitOutcome}
 use Rattle.recv_buf.specs.declared.SizesOutcome.{SizesOutcome}
 use Rattle.recv_buf.specs.State.{Recv, viewOf, bufOf}
-use Rattle.recv_buf.specs.Rules.{created, writeJudged, wrote, written, writtenArena, isReady, takeJudged, tookOut, discarded, emitted, emittedOut, resetJudged, wasReset, resets, shuts, commits, autotunes, flowBack, almostFull, readable}
+use Rattle.recv_buf.specs.Check.{goodBy}
+use Rattle.recv_buf.specs.Rules.{withEnds, created, writeJudged, wrote, written, writtenArena, isReady, takeJudged, tookOut, discarded, emitted, emittedOut, resetJudged, wasReset, resets, shuts, commits, autotunes, flowBack, almostFull, readable}
 use Rattle.settled.specs.Wrong.{Case, _never_, RuledOut, bit, numbers, maybe, chunkList}
 use Rattle.settled.proofs.Ruled.{by-computing}
 
@@ -148,6 +149,9 @@ questions =
     -- readable_len: what lies behind a hole; more than was asked for
     ∷ ((readable later 9 ∷ []) never (5 ∷ []))
     ∷ ((readable four 3 ∷ []) never (6 ∷ []))
+    -- is_good: a good buffer refused; one whose highest end is below what was handed out let through
+    ∷ (bit (goodBy (bufOf four)) never (0 ∷ []))
+    ∷ (bit (goodBy (bufOf (withEnds drained 11 10 (drained .fin)))) never (1 ∷ []))
     ∷ []
 
 pub calls-settled : RuledOut calls

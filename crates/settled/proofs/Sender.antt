@@ -14,7 +14,8 @@ use Rattle.send_buf.specs.declared.CountOutcome.{CountOutcome}
 use Rattle.send_buf.specs.declared.EmitOutcome.{EmitOutcome}
 use Rattle.send_buf.specs.declared.SizesOutcome.{SizesOutcome}
 use Rattle.send_buf.specs.State.{Send, viewOf, bufOf}
-use Rattle.send_buf.specs.Rules.{created, writeJudged, wrote, written, writtenArena, front, sent, emitted, emittedOut, ackJudged, ackedMore, acks, ackDrops, lossJudged, lost, retransmits, wasReset, resets, stops, shuts, raised, blockedAt, cap, isComplete, ackOff}
+use Rattle.send_buf.specs.Check.{goodBy}
+use Rattle.send_buf.specs.Rules.{withQueue, created, writeJudged, wrote, written, writtenArena, front, sent, emitted, emittedOut, ackJudged, ackedMore, acks, ackDrops, lossJudged, lost, retransmits, wasReset, resets, stops, shuts, raised, blockedAt, cap, isComplete, ackOff}
 use Rattle.settled.specs.Wrong.{Case, _never_, RuledOut, bit, numbers, maybe, chunkList, rangeList}
 use Rattle.settled.proofs.Ruled.{by-computing}
 
@@ -152,6 +153,9 @@ questions =
     -- buffered_bytes: all that is held; what was sent
     ∷ ((four .buffered ∷ []) never (10 ∷ []))
     ∷ ((four .buffered ∷ []) never (4 ∷ []))
+    -- is_good: a good buffer refused; one whose bytes to send are one too many let through
+    ∷ (bit (goodBy (bufOf four)) never (0 ∷ []))
+    ∷ (bit (goodBy (bufOf (withQueue four (four .chunks) (four .pos) (four .buffered + 1)))) never (1 ∷ []))
     ∷ []
 
 pub calls-settled : RuledOut calls

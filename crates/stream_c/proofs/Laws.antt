@@ -18,6 +18,10 @@ use Rattle.refusal.specs.declared.SizesAnswer.{SizesAnswer}
 use Rattle.refusal.specs.declared.SizesAnswer.the-variants.{Sizes, Refused as NoSizes}
 use Rattle.refusal.specs.declared.OptionU64.{OptionU64}
 use Rattle.refusal.specs.declared.OptionU64.the-variants.{None, Some}
+use Rattle.range_buf.specs.declared.RangeBuf.{RangeBuf}
+use Rattle.range_buf.specs.declared.SplitAnswer.{SplitAnswer}
+use Rattle.range_buf.specs.declared.SplitAnswer.the-variants.{Right, Refused as NoSplit}
+use Rattle.range_buf.specs.Rules.{zeroBuf, toldSplit}
 use Rattle.flowcontrol.specs.declared.FlowControl.{FlowControl}
 use Rattle.flowcontrol.specs.State.{Good as GoodFlow}
 use Rattle.send_buf.specs.declared.SendBuf.{SendBuf}
@@ -25,6 +29,8 @@ use Rattle.send_buf.specs.State.{Good as GoodSendBuf}
 use Rattle.recv_buf.specs.declared.RecvBuf.{RecvBuf}
 use Rattle.recv_buf.specs.State.{Good as GoodRecvBuf}
 use Rattle.stream_c.specs.declared.VkAnswer.{VkAnswer}
+use Rattle.stream_c.specs.declared.chunk.VkSplitOut.{VkSplitOut}
+use Rattle.stream_c.specs.Rules.{splitWith}
 use Rattle.stream_c.specs.State.{optionOf, vkNumber, codeOr0, padded, flowOf, vkFlow, sendOf, vkSend, recvOf, vkRecv}
 
 -- ---- answers
@@ -100,6 +106,29 @@ pub sizes-back : (a : SizesAnswer) → sizesOf (padded (toldSizes a)) ≡ a
 unfolding padded
 sizes-back (Sizes m n) = refl
 sizes-back (NoSizes why) = refused why (Sizes (padded (refusal why) .first) (padded (refusal why) .second)) NoSizes
+
+-- a split's right part stands beside its answer, and the number is the one that the split tells
+abbrev pub splitOf : VkSplitOut → SplitAnswer
+splitOf o = ofAnswer (o .answer) (Right (o .right)) NoSplit
+
+pub split-back : (left : RangeBuf) (a : SplitAnswer) → splitOf (splitWith left a) ≡ a
+unfolding padded
+split-back left (Right right) = refl
+split-back left (NoSplit why) = refused why (Right zeroBuf) NoSplit
+
+pub split-told : (left : RangeBuf) (a : SplitAnswer) → splitWith left a .answer .number ≡ toldSplit a .number
+unfolding padded
+split-told left (Right right) = refl
+split-told left (NoSplit Offset) = refl
+split-told left (NoSplit (Stopped code)) = refl
+split-told left (NoSplit FinalSize) = refl
+split-told left (NoSplit OverLimit) = refl
+split-told left (NoSplit NoRoom) = refl
+split-told left (NoSplit TableFull) = refl
+split-told left (NoSplit NeverSent) = refl
+split-told left (NoSplit NothingMore) = refl
+split-told left (NoSplit (Reset code)) = refl
+split-told left (NoSplit BadSetup) = refl
 
 -- ---- states: there and back
 

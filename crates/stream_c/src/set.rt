@@ -2,7 +2,7 @@
 ghost use mathlib.Core.Path.{_≡_};
 ghost use lib.ListN.{length};
 ghost use Rattle.ranges.specs.State.{Good, ranges, upto};
-ghost use Rattle.ranges.specs.Rules.{created, memberOf, rangeAt, firstOf, lastOf, isSingle, inserted, tried, pushed, removed};
+ghost use Rattle.ranges.specs.Rules.{created, memberOf, rangeAt, lastOf, isSingle, inserted, tried, pushed, removed};
 ghost use Rattle.stream_c.specs.State.{vkNumber};
 ghost use Rattle.stream_c.specs.Rules.{setOut, rangeOut};
 use super::VkAnswer;
@@ -58,15 +58,6 @@ pub extern "C" fn vk_range_set_get(set: RangeSet, i: usize) -> VkRangeOut
     ensures { λ r. ⌜ r ≡ rangeOut (rangeAt i (ranges set)) ⌝ }
 {
     range_out(set.get(i))
-}
-
-// The start of the lowest range.
-#[no_mangle]
-pub extern "C" fn vk_range_set_first(set: RangeSet) -> VkNumber
-    requires { ⌜ Good set ⌝ }
-    ensures { λ r. ⌜ r ≡ vkNumber (firstOf (ranges set)) ⌝ }
-{
-    super::vk_number(set.first())
 }
 
 // The number before the end of the highest range.

@@ -42,13 +42,6 @@ pub extern "C" fn vk_flow_control_max_data(flow: VkFlowControl) -> u64
     super::flow_of(flow).max_data()
 }
 
-#[no_mangle]
-pub extern "C" fn vk_flow_control_consumed(flow: VkFlowControl) -> u64
-    ensures { λ r. ⌜ r ≡ flowOf flow .consumed ⌝ }
-{
-    super::flow_of(flow).consumed()
-}
-
 // Counts `consumed` bytes more. Offset.
 #[no_mangle]
 pub extern "C" fn vk_flow_control_add_consumed(

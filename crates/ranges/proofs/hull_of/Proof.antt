@@ -10,7 +10,7 @@ most-requires : tie.Need-most-requires
 most-requires c κs = search needs
 
 returns : tie.Need-returns
-returns c = rw (c .before .least .ensures .0, c .most .ensures .0)
+returns c = rw (c .before .least .ensures, c .most .ensures)
 
 pub hull-of-spec : {M : Type 1} → statement M
 hull-of-spec = tie.close (tie.spec least-requires most-requires returns)

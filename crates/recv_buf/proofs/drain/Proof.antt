@@ -39,7 +39,7 @@ returns c =
     let l = c .before .before .before .before .before in
     let s = l .before .before .before in
     let a = s .before .args in
-    let n : l .least .result ≡ min (avail (a .chunk)) (length (a .out .now)) = l .least .ensures .0 ∙ ap (λ (x : ℕ). min x (length (a .out .now))) (l .before .len .ensures) in (
+    let n : l .least .result ≡ min (avail (a .chunk)) (length (a .out .now)) = l .least .ensures ∙ ap (λ (x : ℕ). min x (length (a .out .now))) (l .before .len .ensures) in (
       n,
       (
         filled-front (a .arena .now) (a .out .now) (c .before .before .hand .last .1 .1 .0) (start (a .chunk)) (l .least .result) (s .before .pre .1) (search needs)

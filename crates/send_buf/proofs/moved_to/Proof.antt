@@ -24,8 +24,8 @@ returns-2 : tie.Need-returns-2
 returns-2 c =
     let a = c .before .before .before .before in
     let t : a .args .off ≤ end (a .args .buf) = omega (arith, c .before .before .before .max-off .ensures) in
-    let m : c .least .result ≡ min (a .args .buf .pos) (a .args .off - a .args .buf .off) = rw (sym (c .before .saturating-sub .ensures .0)) (c .least .ensures .0) in
-    (rw m (simp (le-ltb _ _ t)), c .least .ensures .1)
+    let m : c .least .result ≡ min (a .args .buf .pos) (a .args .off - a .args .buf .off) = rw (sym (c .before .saturating-sub .ensures)) (c .least .ensures) in
+    (rw m (simp (le-ltb _ _ t)), omega (arith, c .least .ensures))
 
 pub moved-to-spec : {M : Type 1} → statement M
 moved-to-spec =

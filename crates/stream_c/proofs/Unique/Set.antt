@@ -4,7 +4,7 @@ use mathlib.Core.Bool.{Bool}
 use Prim.Native.Nat.{ℕ}
 use lib.ListN.{length}
 use Rattle.ranges.specs.State.{ranges, upto}
-use Rattle.ranges.specs.Rules.{created, memberOf, rangeAt, firstOf, lastOf, isSingle, inserted, tried, pushed, removed}
+use Rattle.ranges.specs.Rules.{created, memberOf, rangeAt, lastOf, isSingle, inserted, tried, pushed, removed}
 use Rattle.stream_c.specs.State.{vkNumber}
 use Rattle.stream_c.specs.Rules.{setOut, rangeOut}
 use Rattle.tables.proofs.Tables.{no-second}
@@ -24,9 +24,6 @@ vk-range-set-contains-one set item = no-second
 
 pub vk-range-set-get-one : (set : RangeSet) (i : ℕ) (p q : VkRangeOut) → p ≡ rangeOut (rangeAt i (ranges set)) → q ≡ rangeOut (rangeAt i (ranges set)) → p ≡ q
 vk-range-set-get-one set i = no-second
-
-pub vk-range-set-first-one : (set : RangeSet) (p q : VkNumber) → p ≡ vkNumber (firstOf (ranges set)) → q ≡ vkNumber (firstOf (ranges set)) → p ≡ q
-vk-range-set-first-one set = no-second
 
 pub vk-range-set-last-one : (set : RangeSet) (p q : VkNumber) → p ≡ vkNumber (lastOf (ranges set)) → q ≡ vkNumber (lastOf (ranges set)) → p ≡ q
 vk-range-set-last-one set = no-second

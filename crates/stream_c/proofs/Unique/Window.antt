@@ -18,9 +18,6 @@ vk-flow-control-window-one flow = no-second
 pub vk-flow-control-max-data-one : (flow : VkFlowControl) (p q : ℕ) → p ≡ flowOf flow .«max_data» → q ≡ flowOf flow .«max_data» → p ≡ q
 vk-flow-control-max-data-one flow = no-second
 
-pub vk-flow-control-consumed-one : (flow : VkFlowControl) (p q : ℕ) → p ≡ flowOf flow .consumed → q ≡ flowOf flow .consumed → p ≡ q
-vk-flow-control-consumed-one flow = no-second
-
 pub vk-flow-control-add-consumed-one : (flow : VkFlowControl) (consumed : ℕ) (p q : VkFlowControlOut) → p ≡ flowOut (consumedMore (flowOf flow) consumed) → q ≡ flowOut (consumedMore (flowOf flow) consumed) → p ≡ q
 vk-flow-control-add-consumed-one flow consumed = no-second
 

@@ -27,14 +27,14 @@ returns-2 c =
     let s = c .before .before .before in
     let a = s .before .before .before .before .args in
     let l = s .before .before .last .given in
-    rw (c .set-window .ensures, was-recent (a .self .«last_update») _ (a .now) (a .rtt) (s .saturating-sub .result) (l .1) (s .saturating-sub .ensures .0) (c .before .before .if1 .taken))
+    rw (c .set-window .ensures, was-recent (a .self .«last_update») _ (a .now) (a .rtt) (s .saturating-sub .result) (l .1) (s .saturating-sub .ensures) (c .before .before .if1 .taken))
 
 returns-3 : tie.Need-returns-3
 returns-3 c =
     let s = c .before in
     let a = s .before .before .before .before .args in
     let l = s .before .before .last .given in
-    rw (was-long-ago (a .self .«last_update») _ (a .now) (a .rtt) (s .saturating-sub .result) (l .1) (s .saturating-sub .ensures .0) (c .if1 .left))
+    rw (was-long-ago (a .self .«last_update») _ (a .now) (a .rtt) (s .saturating-sub .result) (l .1) (s .saturating-sub .ensures) (c .if1 .left))
 
 pub autotune-window-spec : {M : Type 1} → statement M
 autotune-window-spec =

@@ -14,7 +14,7 @@ least-requires : tie.Need-least-requires
 least-requires c κs = search needs
 
 returns-2 : tie.Need-returns-2
-returns-2 c = rw (c .least .ensures .0, sym (c .before .before .bad-numbers .ensures) ∙ c .before .if1 .left)
+returns-2 c = rw (c .least .ensures, sym (c .before .before .bad-numbers .ensures) ∙ c .before .if1 .left)
 
 pub new-spec : {M : Type 1} → statement M
 new-spec = tie.close (tie.spec bad-numbers-requires returns least-requires returns-2)

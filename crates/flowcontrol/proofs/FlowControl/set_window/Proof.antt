@@ -7,7 +7,7 @@ least-requires : tie.Need-least-requires
 least-requires c κs = search needs
 
 returns : tie.Need-returns
-returns c = rw (c .least .ensures .0)
+returns c = rw (c .least .ensures)
 
 pub set-window-spec : {M : Type 1} → statement M
 set-window-spec = tie.close (tie.spec least-requires returns)

@@ -7,7 +7,7 @@ saturating-sub-requires : tie.Need-saturating-sub-requires
 saturating-sub-requires c κs = search needs
 
 returns : tie.Need-returns
-returns c = rw (c .before .saturating-sub .ensures .0)
+returns c = rw (c .before .saturating-sub .ensures)
 
 pub should-update-max-data-spec : {M : Type 1} → statement M
 should-update-max-data-spec = tie.close (tie.spec saturating-sub-requires returns)

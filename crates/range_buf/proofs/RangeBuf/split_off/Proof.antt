@@ -23,7 +23,7 @@ returns-2 : tie.Need-returns-2
 returns-2 c =
     let e = c .before .before .before .before in
     let a = e .before .before .args in
-    let k : c .before .before .before .least .result ≡ min (a .self .pos) (a .at) = c .before .before .before .least .ensures .0 in
+    let k : c .before .before .before .least .result ≡ min (a .self .pos) (a .at) = c .before .before .before .least .ensures in
     let r : a .self .pos - c .before .before .before .least .result ≡ a .self .pos - a .at = omega (arith, k) in
     rw (r, k, le-ltb (a .self .len) (a .at) (e .if1 .left))
 

@@ -94,7 +94,7 @@ loop-again c =
     let a = l .before .before .before in (
       l .loop .inv .0,
       rw (run-stored j) (fills-mark (a .args .t1) (a .pre .0) (a .args .hi) (a .args .from) (l .loop .next) (l .loop .lo) (l .loop .i) (l .loop .inv .1) (search needs) (m .least .result)
-          (rw (m .before .off .ensures) at (m .least .ensures .0)) (j .before .if2 .taken) (sym (c .before .is-mark .ensures) ∙ c .if4 .taken)),
+          (rw (m .before .off .ensures) at (m .least .ensures)) (j .before .if2 .taken) (sym (c .before .is-mark .ensures) ∙ c .if4 .taken)),
     )
 
 loop-less-2 : tie.Need-loop-less-2 Inv-loop μ-loop
@@ -108,7 +108,7 @@ loop-again-2 c =
     let a = l .before .before .before in (
       l .loop .inv .0,
       rw (run-stored j) (fills-run (a .args .t1) (a .pre .0) (a .args .hi) (a .args .from) (l .loop .next) (l .loop .lo) (l .loop .i) (l .loop .inv .1) (search needs) (m .least .result)
-          (rw (m .before .off .ensures) at (m .least .ensures .0)) (j .before .if2 .taken) (sym (c .before .is-mark .ensures) ∙ c .if4 .left)),
+          (rw (m .before .off .ensures) at (m .least .ensures)) (j .before .if2 .taken) (sym (c .before .is-mark .ensures) ∙ c .if4 .left)),
     )
 
 mul-chunk-2 : tie.Need-mul-chunk-2 Inv-loop μ-loop
@@ -142,9 +142,9 @@ loop-again-3 c =
     let p : j .if5 .next ≡ pushed t d =
     ⊎-elim (λ w. w .1 ∙ store-in t d (w .0 .taken)) (λ w. w .1 ∙ store-past t d (w .0 .left)) (j .if5 .came) in (
       l .loop .inv .0,
-      rw (p, c .most .ensures .0, c .before .max-off .ensures)
+      rw (p, c .most .ensures, c .before .max-off .ensures)
           (fills-chunk (a .args .t1) (a .pre .0) (a .args .hi) (a .args .from) t (l .loop .lo) (l .loop .i) (l .loop .inv .1) (search needs) (m .least .result)
-          (rw (m .before .off .ensures) at (m .least .ensures .0)) (j .before .if2 .left)),
+          (rw (m .before .off .ensures) at (m .least .ensures)) (j .before .if2 .left)),
     )
 
 add-next-2 : tie.Need-add-next-2 Inv-loop μ-loop

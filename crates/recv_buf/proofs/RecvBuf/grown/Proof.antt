@@ -13,7 +13,7 @@ moved-to-requires : tie.Need-moved-to-requires
 moved-to-requires c κs = search needs
 
 returns : tie.Need-returns
-returns c = rw (c .moved-to .ensures, c .before .fin-with .ensures, c .before .before .most .ensures .0)
+returns c = rw (c .moved-to .ensures, c .before .fin-with .ensures, c .before .before .most .ensures)
 
 pub grown-spec : {M : Type 1} → statement M
 grown-spec = tie.close (tie.spec most-requires fin-with-requires moved-to-requires returns)

@@ -30,8 +30,8 @@ loop-holds c =
     let b = a .args .t1 in
     let k : Keeping b (a .args .off) (a .args .input .now) (a .args .arena .now) (a .args .arena .now) (m .most .result) (c .if1 .i) =
     ⊎-elim
-    (λ w. rw (w .1, m .most .ensures .0) (keeps-behind b (a .pre .0) (a .args .off) (a .args .input .now) (a .args .arena .now) (rw (m .most .ensures .0) at (w .0 .taken))))
-    (λ w. rw (w .1, m .most .ensures .0) (keeps-begin b (a .pre .0) (a .args .off) (a .args .input .now) (a .args .arena .now)))
+    (λ w. rw (w .1, m .most .ensures) (keeps-behind b (a .pre .0) (a .args .off) (a .args .input .now) (a .args .arena .now) (rw (m .most .ensures) at (w .0 .taken))))
+    (λ w. rw (w .1, m .most .ensures) (keeps-begin b (a .pre .0) (a .args .off) (a .args .input .now) (a .args .arena .now)))
     (c .if1 .came) in
     (few b (a .pre .0), k)
 
@@ -53,7 +53,7 @@ least-requires c κs = search needs
 keep-run-requires : tie.Need-keep-run-requires Inv-loop μ-loop
 keep-run-requires c κs =
     let l = c .before .before .before .before .before .before in
-    (l .loop .inv .1 .above, c .before .least .ensures .2)
+    (l .loop .inv .1 .above, omega (arith, c .before .least .ensures))
 
 max-off-requires : tie.Need-max-off-requires Inv-loop μ-loop
 max-off-requires c κs =
@@ -78,9 +78,9 @@ loop-again c =
     let l = o .before .before .before .before in
     let a = l .before .before .before .before .before in
     let hi : h .least .result ≡ min (start (getD (a .args .t1 .«data») (l .loop .i) zeroBuf)) (a .args .off + length (a .args .input .now)) =
-    h .least .ensures .0 ∙ ap (λ (x : ℕ). min x (a .args .off + length (a .args .input .now))) (o .off .ensures) in (
+    h .least .ensures ∙ ap (λ (x : ℕ). min x (a .args .off + length (a .args .input .now))) (o .off .ensures) in (
       l .loop .inv .0,
-      rw (c .most2 .ensures .0, c .before .max-off .ensures, r .keep-run .ensures)
+      rw (c .most2 .ensures, c .before .max-off .ensures, r .keep-run .ensures)
           (keeps-more (a .args .t1) (a .pre .0) (a .args .off) (a .args .input .now) (a .args .arena .now) (l .loop .arena) (l .loop .lo) (l .loop .i) (l .loop .inv .1) (search needs) (h .least .result) hi),
     )
 

@@ -14,7 +14,7 @@ saturating-sub-requires : tie.Need-saturating-sub-requires
 saturating-sub-requires c κs = search needs
 
 returns-2 : tie.Need-returns-2
-returns-2 c = rw (c .saturating-sub .ensures .0) (simp (c .before .before .if1 .left, lt-ltb _ _ (c .before .if2 .taken)))
+returns-2 c = rw (c .saturating-sub .ensures) (simp (c .before .before .if1 .left, lt-ltb _ _ (c .before .if2 .taken)))
 
 returns-3 : tie.Need-returns-3
 returns-3 c = simp (c .before .if1 .left, le-ltb _ _ (c .if2 .left))

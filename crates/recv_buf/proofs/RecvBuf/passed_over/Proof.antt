@@ -27,7 +27,7 @@ returns c =
     let a = c .before .before .before .before in
     let b = a .args .self in
     let top = max (b .len) (a .args .end) in
-    rw (c .moved-to .ensures, c .before .entries .ensures, c .before .before .fin-with .ensures, c .before .before .before .most .ensures .0)
+    rw (c .moved-to .ensures, c .before .entries .ensures, c .before .before .fin-with .ensures, c .before .before .before .most .ensures)
     (made-of (withEnds (viewOf b) top top (finWith (b .«fin_off») (a .args .end) (a .args .fin))) (listed (viewOf b .chunks)) refl (a .pre .facts .few))
 
 pub passed-over-spec : {M : Type 1} → statement M

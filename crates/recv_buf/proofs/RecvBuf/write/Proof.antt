@@ -41,7 +41,7 @@ chunks j =
     (λ w.
     w .1
     ∙ f .filled .ensures
-    ∙ ap (λ (k : ℕ). listed (filled (r .chunks) k (a .off + length (a .input .now)))) (f .before .most .ensures .0)
+    ∙ ap (λ (k : ℕ). listed (filled (r .chunks) k (a .off + length (a .input .now)))) (f .before .most .ensures)
     ∙ ap listed (after-bytes r (a .off) (length (a .input .now)) (a .fin) (sym (j .before .sets-first .ensures) ∙ w .0 .left)))
     (j .if3 .came)
 

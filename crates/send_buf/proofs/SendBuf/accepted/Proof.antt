@@ -28,7 +28,7 @@ returns c =
     let a = p .before .before in
     let b = a .args .self in
     let t : ltb (ackOff (viewOf b .acked)) (b .off + a .args .n) ≡ true = rw (sym (p .before .ack-off .ensures)) (sym (p .passes .ensures) ∙ c .before .before .if1 .taken) in
-    (c .least .ensures .0 ∙ sym (accepts (viewOf b) (a .args .n) t), c .least .ensures .1, c .least .ensures .2)
+    (c .least .ensures ∙ sym (accepts (viewOf b) (a .args .n) t), omega (arith, c .least .ensures), omega (arith, c .least .ensures))
 
 returns-2 : tie.Need-returns-2
 returns-2 c =

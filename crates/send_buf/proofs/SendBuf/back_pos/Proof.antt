@@ -32,10 +32,10 @@ returns c =
     let a = c .before .before .before .before .before in
     let b = a .args .self in
     let l = viewOf b .chunks in
-    let i : d .result ≡ dropCount l (a .args .off - 1) = d .ensures .0 ∙ ap (dropCount l) (c .before .before .before .before .saturating-sub .ensures .0) in
+    let i : d .result ≡ dropCount l (a .args .off - 1) = d .ensures .0 ∙ ap (dropCount l) (c .before .before .before .before .saturating-sub .ensures) in
     let t = and-true (ltb (d .result) (length l)) (ltb (getD l (d .result) zeroBuf .off) (a .args .end)) (sym (c .before .before .begins-below .ensures) ∙ c .before .if1 .taken) in
     let p = pos-some (a .args .off) (a .args .end) (a .pre .1) (base l (b .off)) l (b .off) 0 (b .pos) (a .pre .0 .facts .adjoin) (rw (sym i) (ltb-true (d .result) (length l) (t .0))) (rw (sym i) (ltb-true (getD l (d .result) zeroBuf .off) (a .args .end) (t .1))) in
-    c .least .ensures .0 ∙ ap (min (b .pos)) (i ∙ sym (zero-add (dropCount l (a .args .off - 1)))) ∙ sym p
+    c .least .ensures ∙ ap (min (b .pos)) (i ∙ sym (zero-add (dropCount l (a .args .off - 1)))) ∙ sym p
 
 returns-2 : tie.Need-returns-2
 returns-2 c =
@@ -43,7 +43,7 @@ returns-2 c =
     let a = c .before .before .before .before in
     let b = a .args .self in
     let l = viewOf b .chunks in
-    let i : d .result ≡ dropCount l (a .args .off - 1) = d .ensures .0 ∙ ap (dropCount l) (c .before .before .before .saturating-sub .ensures .0) in
+    let i : d .result ≡ dropCount l (a .args .off - 1) = d .ensures .0 ∙ ap (dropCount l) (c .before .before .before .saturating-sub .ensures) in
     let t = not-below l (d .result) (a .args .end) (sym (c .before .begins-below .ensures) ∙ c .if1 .left) in
     sym (pos-none (a .args .off) (a .args .end) (a .pre .1) (base l (b .off)) l (b .off) 0 (b .pos) (a .pre .0 .facts .adjoin) (rw (sym i) t))
 

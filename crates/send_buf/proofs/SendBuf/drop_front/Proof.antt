@@ -77,7 +77,7 @@ returns c =
     let b = s .args .self in
     let l = drop (s .args .n) (viewOf b .chunks) in
     let m : length l ≡ b .count - s .args .n = simp (length-drop, chunks-length b (s .pre .0)) in
-    rw (c .before .saturating-sub .ensures .0)
+    rw (c .before .saturating-sub .ensures)
     (made (without (viewOf b) (s .args .n) (s .args .bytes)) (a .loop .«data») (b .count - s .args .n) (b .acked)
     (fill-ends zeroBuf (tableOf zeroBuf []) l 0 (table-of zeroBuf [] (omega arith)) (a .loop .«data») (a .loop .i) (a .loop .inv .2) (omega arith) (omega (arith, m)) (omega (arith, m, few b (s .pre .0))))
     (sym m) (acked-is b (s .pre .0)))

@@ -38,7 +38,7 @@ returns c =
     let f = t .before .before in
     let a = f .before .before in
     let b = a .args .self in
-    let m : f .most .result ≡ cutOff (viewOf b) = rw (sym (f .before .off-front .ensures)) (f .most .ensures .0) in
+    let m : f .most .result ≡ cutOff (viewOf b) = rw (sym (f .before .off-front .ensures)) (f .most .ensures) in
     let x : Range = upto 0 (cutOff (viewOf b)) in
     let o : t .try-insert .result ≡ tried (setOf 64 (ranges (b .acked))) x =
     t .try-insert .ensures ∙ ap (λ (n : ℕ). tried (b .acked) (upto 0 n)) m ∙ ap (λ (s : RangeSet). tried s x) (acked-is b (a .pre)) in
@@ -56,12 +56,12 @@ returns-2 c =
     let f = t .before .before in
     let a = f .before .before in
     let b = a .args .self in
-    let m : f .most .result ≡ cutOff (viewOf b) = rw (sym (f .before .off-front .ensures)) (f .most .ensures .0) in
+    let m : f .most .result ≡ cutOff (viewOf b) = rw (sym (f .before .off-front .ensures)) (f .most .ensures) in
     let x : Range = upto 0 (cutOff (viewOf b)) in
     let o : t .try-insert .result ≡ tried (setOf 64 (ranges (b .acked))) x =
     t .try-insert .ensures ∙ ap (λ (n : ℕ). tried (b .acked) (upto 0 n)) m ∙ ap (λ (s : RangeSet). tried s x) (acked-is b (a .pre)) in
     let j = joined x (ranges (b .acked)) (omega arith) (t .try-insert .result) o (c .before .before .before .enum-told .given .1) in
-    rw (c .ended .ensures) (resets-at b (f .most .result) (t .try-insert .result .set) (c .before .saturating-sub .result) m (j .1) (c .before .saturating-sub .ensures .0))
+    rw (c .ended .ensures) (resets-at b (f .most .result) (t .try-insert .result .set) (c .before .saturating-sub .result) m (j .1) (c .before .saturating-sub .ensures))
 
 pub reset-spec : {M : Type 1} → statement M
 reset-spec =

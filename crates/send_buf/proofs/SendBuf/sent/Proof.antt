@@ -16,7 +16,7 @@ most-requires : tie.Need-most-requires
 most-requires c κs = search needs
 
 returns : tie.Need-returns
-returns c = rw (c .before .before .pos-after .ensures, c .most .ensures .0)
+returns c = rw (c .before .before .pos-after .ensures, c .most .ensures)
 
 pub sent-spec : {M : Type 1} → statement M
 sent-spec = tie.close (tie.spec pos-after-requires sub-next add-most most-requires returns)

@@ -24,7 +24,7 @@ unfolding raised
 returns-2 c =
     let b = c .before .before .args .self in
     let g = c .before .before .pre in
-    let m : c .most .result ≡ max (b .«max_data») (c .before .before .args .max-data) = c .most .ensures .0 in
+    let m : c .most .result ≡ max (b .«max_data») (c .before .before .args .max-data) = c .most .ensures in
     let e = made (withLimit (viewOf b) (max (b .«max_data») (c .before .before .args .max-data)) (b .«blocked_at»)) (b .«data») (b .count) (b .acked) (table b g .clear) (count-is b g) (acked-is b g) in
     rw (m, le-ltb M (c .before .before .args .max-data) (c .before .if1 .left)) (λ j. record { answer = Done; buf = e j })
 
