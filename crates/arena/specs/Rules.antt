@@ -1,4 +1,4 @@
--- The arena (document 01, "Sizes"): the kept byte of stream offset o lies at place o mod A, A being the arena's length.
+-- The arena (RULES 1): the kept byte of stream offset o lies at place o mod A, A being the arena's length.
 -- An arena is the list of its bytes.
 use Prim.Native.Nat.{ℕ, zero, suc, _%_}
 use mathlib.Core.List.{List, [], _∷_}

@@ -1,4 +1,4 @@
--- Document 01's worked examples of the window, about the definitions: each is one statement over a table of cases. Assumes nothing.
+-- The worked examples of the window (RULES 10), about the definitions: each is one statement over a table of cases. Assumes nothing.
 use mathlib.Core.Path.{_≡_, refl}
 use mathlib.Core.Bool.{Bool, true, false}
 use mathlib.Core.List.{[], _∷_, map}

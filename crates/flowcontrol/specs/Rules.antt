@@ -1,4 +1,4 @@
--- The window (document 01, "Window"; refusals 1 and 10). Sums and products are whole numbers. `cond t x y` is x if the test t holds, else y.
+-- The window (RULES 6; refusals 1 and 10). Sums and products are whole numbers. `cond t x y` is x if the test t holds, else y.
 use mathlib.Core.Bool.{Bool, false, cond, _||_}
 use Prim.Native.Nat.{ℕ, _+_, _-_, _*_, _/_, min}
 use lib.Dec.{ltb}

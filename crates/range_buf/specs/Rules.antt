@@ -1,4 +1,4 @@
--- One chunk (document 01, "What is carried over" and refusal 1): off is where it begins, len its whole length, pos the consumed part.
+-- One chunk (RULES 3): off is where it begins, len its whole length, pos the consumed part.
 -- Sums are whole numbers. `cond t x y` is x if the test t holds, else y.
 use mathlib.Core.Bool.{Bool, cond}
 use mathlib.Core.List.{[], _∷_}

@@ -1,4 +1,4 @@
--- Document 01's worked examples of the range set, about the definitions: each is one statement over a table of cases. Assumes nothing.
+-- The worked examples of the range set (RULES 10), about the definitions: each is one statement over a table of cases. Assumes nothing.
 use mathlib.Core.Path.{_≡_, refl}
 use mathlib.Core.List.{List, [], _∷_, map}
 use Prim.Native.Nat.{ℕ}

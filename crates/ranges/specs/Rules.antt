@@ -1,4 +1,4 @@
--- What the calls of a range set do, on the list of its ranges (document 01, "Range set"; refusals 1, 6 and 10).
+-- What the calls of a range set do, on the list of its ranges (RULES 5; refusals 1, 6 and 10).
 -- `cond t x y` is x if the test t holds, else y; `filterBy p l` the entries of l that pass p; `hull x l` spans x and all of l.
 use mathlib.Core.Bool.{Bool, true, false, cond, _&&_}
 use mathlib.Core.List.{List, [], _∷_, _++_}

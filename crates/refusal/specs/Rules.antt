@@ -1,4 +1,4 @@
--- The numbered refusals of document 01 ("Numbered refusals"), what each kind of answer says in its numbers, and the largest offset ("Sizes").
+-- The numbered refusals (RULES 2.1), what each kind of answer says in its numbers, and the largest offset (RULES 1).
 use mathlib.Core.Bool.{Bool, true, false, cond, not}
 use mathlib.Core.List.{List, [], _∷_}
 use Prim.Native.Nat.{ℕ, _-_, _^_}
@@ -46,7 +46,7 @@ codeOf Done = None
 codeOf (Reset code) = Some code
 codeOf BadSetup = None
 
--- what an answer says: document 01's number, 0 for a success, and the values that go with it
+-- what an answer says: the refusal's number, 0 for a success, and the values that go with it
 pub record Told : Type 0 where
   pub number : ℕ
   pub values : List ℕ

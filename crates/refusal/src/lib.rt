@@ -1,10 +1,10 @@
 // The words that every crate shares: the ten numbered refusals, the kinds of answer, a number that may be missing, M, and the few
 // small sums that the Rust takes from its library.
 //
-// A refusal is an answer like any other. Its number is the one that document 01 gives it, and it travels up unchanged through every
+// A refusal is an answer like any other. Its number is the one that docs/RULES.md, 2.1 gives it, and it travels up unchanged through every
 // module above the one that gave it.
 ghost use mathlib.Core.Path.{_≡_};
-ghost use Prim.Native.Nat.{_+_, _-_, _≤_, min, max};
+ghost use Prim.Native.Nat.{_+_, _-_, min, max};
 ghost use lib.Dec.{ltb};
 ghost use Rattle.refusal.specs.Rules.{M, numberOf, codeOf, told, toldCount, toldEmit, toldSizes, withCount, withBytes, withSizes, known, isAt, isOther};
 
@@ -55,7 +55,7 @@ pub enum OptionU64 {
 }
 
 impl Refusal {
-    // Document 01's number.
+    // The refusal's number (RULES 2.1).
     pub fn number(self) -> u64
         ensures { λ r. ⌜ r ≡ numberOf self ⌝ }
     {
@@ -93,7 +93,7 @@ impl Refusal {
 }
 
 impl Answer {
-    // Document 01's number; 0 is success.
+    // The refusal's number; 0 is success.
     pub fn number(self) -> u64
         ensures { λ r. ⌜ r ≡ told self .number ⌝ }
     {
@@ -166,7 +166,7 @@ impl OptionU64 {
 }
 
 impl CountAnswer {
-    // Document 01's number; 0 is success.
+    // The refusal's number; 0 is success.
     pub fn number(self) -> u64
         ensures { λ r. ⌜ r ≡ toldCount self .number ⌝ }
     {
@@ -178,7 +178,7 @@ impl CountAnswer {
 }
 
 impl EmitAnswer {
-    // Document 01's number; 0 is success.
+    // The refusal's number; 0 is success.
     pub fn number(self) -> u64
         ensures { λ r. ⌜ r ≡ toldEmit self .number ⌝ }
     {
@@ -190,7 +190,7 @@ impl EmitAnswer {
 }
 
 impl SizesAnswer {
-    // Document 01's number; 0 is success.
+    // The refusal's number; 0 is success.
     pub fn number(self) -> u64
         ensures { λ r. ⌜ r ≡ toldSizes self .number ⌝ }
     {

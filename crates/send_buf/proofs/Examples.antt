@@ -1,4 +1,4 @@
--- The examples E1, E2, E3 and E5 of document 01, and its "easy errors", one statement over a table of calls: each call, made after those above
+-- The examples E1, E2, E3 and E5 (RULES 10), and the errors that are easily made, one statement over a table of calls: each call, made after those above
 -- it, is answered as the table says, and leaves what it says. By computing what the contracts promise. Assumes nothing.
 use mathlib.Core.Path.{_≡_, refl}
 use mathlib.Core.Bool.{Bool, true, false}

@@ -1,4 +1,4 @@
--- The send buffer, as document 01 has it ("Send side"; refusals 1, 2, 3, 5, 6, 7, 8, 10).
+-- The send buffer (RULES 4; refusals 1, 2, 3, 5, 6, 7, 8, 10).
 --
 -- The life of a byte. It is WRITTEN: it gets the next offset, its place in the arena and a chunk. It is SENT: an emit copies it out, and the
 -- consumed part of its chunk grows over it. It may be LOST: a retransmit moves that consumed part back, and it will be SENT AGAIN. It is
@@ -7,7 +7,7 @@
 --      dropped | acked, sent or lost, some of it to be sent again | written, never sent |  free
 --              b                                               emitted                 off       b + A
 --
--- Each call has its refusals, one named test to a line in the order of document 01, and apart from them its effect. Sums are whole numbers.
+-- Each call has its refusals, one named test to a line in the order of RULES 2.2, and apart from them its effect. Sums are whole numbers.
 -- `cond t x y` is x if the test t holds, else y.
 use mathlib.Core.Bool.{Bool, true, false, cond, not, _&&_, _||_}
 use mathlib.Core.List.{List, [], _∷_, _++_}

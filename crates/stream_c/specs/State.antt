@@ -1,5 +1,5 @@
 -- The C states and answers, and the crates' own: what stands for what. A number that may be missing is a flag and a value, and an answer is
--- document 01's number with two values; everything else goes over field by field.
+-- the refusal's number with two values; everything else goes over field by field.
 use mathlib.Core.Bool.{true, false, cond}
 use Prim.Native.Nat.{ℕ}
 use lib.ListN.{getD}

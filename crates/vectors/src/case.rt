@@ -5,7 +5,7 @@ use super::words;
 use super::words::Number;
 
 // No call; a line that was not understood, whose stored answers are passed over; a call with no stored line yet; one that agrees with
-// quiche's line; one that agrees with document 01's line, in a row of docs/DIFFERENCES.md; one that differs.
+// quiche's line; one that agrees with the rules' line, in a row of docs/DIFFERENCES.md; one that differs.
 const NOTHING: u64 = 0;
 
 const PASSED: u64 = 1;
@@ -72,7 +72,7 @@ impl Case {
         self.state == PASSED
     }
 
-    // A stored line: quiche's or document 01's.
+    // A stored line: quiche's or the rules'.
     pub fn held_against(self, line: &[u8], stored: &mut [u8], ours: &[u8]) -> Case {
         if line.len() == 0 {
             return self;
@@ -91,7 +91,7 @@ impl Case {
         self.held(AGREES, &line[2..], stored, ours)
     }
 
-    // Document 01's line, `! D-nn ANSWER | STATE`.
+    // The rules' line, `! D-nn ANSWER | STATE`.
     fn ruled(self, line: &[u8], stored: &mut [u8], ours: &[u8]) -> Case {
         if line.len() < 4 {
             return self.differs(line, stored);

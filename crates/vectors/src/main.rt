@@ -3,9 +3,9 @@
 //     vectors < LIST
 //
 // The list's text is that of the call script. Under each call stands the line that quiche answers, `< ANSWER | STATE`, and under that, where
-// document 01 asks for another, `! D-nn ANSWER | STATE`, with the row of docs/DIFFERENCES.md. The program makes each call on the proved
+// docs/RULES.md asks for another, `! D-nn ANSWER | STATE`, with the row of docs/DIFFERENCES.md. The program makes each call on the proved
 // crates, puts the answer and the state that it leaves into text, and compares. A call agrees with quiche's line, or, if it has one, with
-// document 01's; any other differs. Lines that begin with `#` and empty ones are skipped.
+// the rules'; any other differs. Lines that begin with `#` and empty ones are skipped.
 //
 // Any bytes may stand on standard input. A line that is no call is counted as not understood, and one of 8,192 bytes or more as differing.
 mod case;

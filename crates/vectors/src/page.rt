@@ -66,7 +66,7 @@ impl Page {
         next
     }
 
-    // A stored answer: quiche's, or document 01's.
+    // A stored answer: quiche's, or the rules'.
     fn stored(self, line: &[u8], stored: &mut [u8], ours: &[u8]) -> Page {
         let mut next = self;
         let case = self.case;

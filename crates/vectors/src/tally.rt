@@ -70,7 +70,7 @@ impl Tally {
     // The closing table. `broken` says that standard input could not be read to its end.
     pub fn table(self, broken: bool) {
         self.objects();
-        say(b"rows of docs/DIFFERENCES.md, each call with what document 01 asks:\n");
+        say(b"rows of docs/DIFFERENCES.md, each call with what docs/RULES.md asks:\n");
         self.each_row();
         let calls = self.calls;
         let agree = self.agree;
@@ -79,7 +79,7 @@ impl Tally {
         counted(total(agree), b" agree with quiche's stored answer\n");
         counted(
             total(ruled),
-            b" stand in a row and give what document 01 asks\n",
+            b" stand in a row and give what docs/RULES.md asks\n",
         );
         counted(self.differ, b" differ otherwise\n");
         counted(self.unclear, b" lines not understood\n");

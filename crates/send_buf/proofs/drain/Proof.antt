@@ -3,6 +3,7 @@ use Prim.Native.Nat.{_-_, min}
 use Rattle.arena.specs.Rules.{handed}
 use Rattle.range_buf.specs.Rules.{avail, start}
 use Rattle.arena.proofs.Parts.{filled-front}
+use native.Mathlib.Omega.{arith}
 use borrow.Author.Needs.{needs}
 use lib.ListN.{length, take}
 use mathlib.Core.Path.{_∙_, _≡_, ap}
@@ -37,10 +38,10 @@ returns : tie.Need-returns
 returns c =
     let k = c .before .before .before .before .before .least in
     let s = c .before .before .before .before .before .before .before .before .before in
-    let m : k .result ≡ min (length (s .args .out .now)) (avail (s .args .buf)) = k .ensures .0 ∙ ap (min (length (s .args .out .now))) (c .before .before .before .before .before .before .len .ensures) in
+    let m : k .result ≡ min (length (s .args .out .now)) (avail (s .args .buf)) = k .ensures ∙ ap (min (length (s .args .out .now))) (c .before .before .before .before .before .before .len .ensures) in
     let h = c .before .before .hand in
     let e : h .last .1 .1 .0 ≡ handed (s .args .arena .now) (start (s .args .buf)) (take (k .result - 0) (s .args .out .now)) = rw (← c .before .before .before .before .off .ensures) (h .ensures) in
-    ((m, k .ensures .1, rw (← c .before .before .before .before .before .before .len .ensures) (k .ensures .2)), filled-front (s .args .arena .now) (s .args .out .now) (h .last .1 .1 .0) (start (s .args .buf)) (k .result) (s .pre .1) (k .ensures .1) e)
+    ((m, omega (arith, m), omega (arith, m)), filled-front (s .args .arena .now) (s .args .out .now) (h .last .1 .1 .0) (start (s .args .buf)) (k .result) (s .pre .1) (omega (arith, m)) e)
 
 pub drain-spec : {M : Type 1} → statement M
 drain-spec =

@@ -1,4 +1,5 @@
 -- `SendBuf::accepted` meets its contract. Assumes nothing.
+use native.Mathlib.Omega.{arith}
 use Prim.Native.Nat.{_+_}
 use Rattle.send_buf.proofs.Writing.{accepts, accepts-none}
 use Rattle.send_buf.specs.Rules.{ackOff}
