@@ -5,10 +5,11 @@
 --   an accepted write changes only the places of newly kept bytes                          write-elsewhere, write-stays, write-new, write-length
 --   an accepted emit changes only the first `count` bytes of the output                    emit-front, emit-behind, emit-length
 --   `readable_len` says what an emit would take                                            readable-takes
+--   an accepted mark sets the final size; a frame with bytes or mark raises the highest end   mark-sets, len-grows
 use mathlib.Core.Path.{_≡_, refl, sym, ap, _∙_}
 use mathlib.Core.Bool.{Bool, true, false, cond, not, _&&_, _||_}
 use mathlib.Core.List.{List, [], _++_}
-use Prim.Native.Nat.{ℕ, _+_, _-_, _%_, _≤_, _<_}
+use Prim.Native.Nat.{ℕ, _+_, _-_, _%_, _≤_, _<_, max}
 use native.Mathlib.Omega.{arith}
 use lib.Dec.{ltb, eqb}
 use lib.ListN.{length, getD, take, drop, length-append, length-drop}
@@ -229,3 +230,19 @@ dead-write a s n fin = decided (never-right a) (Refused BadSetup) _
 pub dead-emit : (a n : ℕ) → emitted (newRecv 0 0 0) a n .answer ≡ NoBytes BadSetup
 unfolding emitted
 dead-emit a n = ap (λ (o : EmitOutcome). o .answer) (decided (never-right a) (record { answer = NoBytes BadSetup; buf = bufOf (newRecv 0 0 0) }) (discarded (newRecv 0 0 0) n))
+
+-- ---- the numbers after an accepted frame of n bytes at s
+
+no-silence : (b : Bool) → (b && false) ≡ false
+no-silence true = refl
+no-silence false = refl
+
+-- a mark sets F to the frame's end
+pub mark-sets : (r : Recv) (s n : ℕ) → wrote r s n true .fin ≡ Some (s + n)
+unfolding wrote
+mark-sets r s n = rw (no-silence (eqb n 0)) (cond-elim (λ (x : Recv). x .fin ≡ Some (s + n)) (r .drain) (λ _. refl) (λ _. refl))
+
+-- a frame with bytes or mark raises `len` to its end
+pub len-grows : (r : Recv) (s n : ℕ) (fin : Bool) → (eqb n 0 && not fin) ≡ false → wrote r s n fin .len ≡ max (r .len) (s + n)
+unfolding wrote
+len-grows r s n fin h = rw h (cond-elim (λ (x : Recv). x .len ≡ max (r .len) (s + n)) (r .drain) (λ _. refl) (λ _. refl))

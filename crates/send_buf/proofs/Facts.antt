@@ -9,7 +9,7 @@ use native.Mathlib.Omega.{arith}
 use lib.Dec.{ltb, leb}
 use lib.ListN.{length, take, drop, getD, length-append, length-take, length-drop}
 use lib.Seq.{take-at, drop-at}
-use borrow.Author.Tests.{leb-true, ltb-false}
+use borrow.Author.Tests.{leb-true, ltb-false, lt-leb, le-ltb, lt-ltb}
 use Rattle.refusal.specs.Rules.{M, withCount, after, known}
 use Rattle.refusal.specs.declared.Refusal.{Refusal}
 use Rattle.refusal.specs.declared.Answer.{Answer}
@@ -21,6 +21,8 @@ use Rattle.refusal.proofs.Answers.{after-elim}
 use Rattle.arena.specs.Rules.{held}
 use Rattle.arena.proofs.Places.{right-arena}
 use Rattle.arena.proofs.Laws.{length-kept, length-held, kept-elsewhere, held-before, held-kept}
+use Rattle.range_buf.specs.declared.RangeBuf.{RangeBuf}
+use Rattle.range_buf.specs.Rules.{end, leftPart, rightPart}
 use Rattle.ranges.specs.State.{upto}
 use Rattle.ranges.specs.Rules.{memberOf, placed}
 use Rattle.ranges.proofs.Members.{placed-new, placed-old, placed-only}
@@ -30,7 +32,7 @@ use Rattle.send_buf.specs.declared.Outcome.{Outcome}
 use Rattle.send_buf.specs.declared.EmitOutcome.{EmitOutcome}
 use Rattle.send_buf.specs.declared.SizesOutcome.{SizesOutcome}
 use Rattle.send_buf.specs.State.{Send, viewOf, bufOf, base, GoodSend, Good}
-use Rattle.send_buf.specs.Rules.{otherArena, ackOff, accepted, writeJudged, written, writtenArena, front, first, emitCount, sent, emitted, emittedOut, ackJudged, ackedMore, acks, dropBytes, dropped, ackDrops, settled, lossJudged, lost, lostBytes, retransmits, cutOff, unsent, stops, shuts, raised}
+use Rattle.send_buf.specs.Rules.{otherArena, ackOff, accepted, writeJudged, written, writtenArena, front, first, emitCount, sent, emitted, emittedOut, ackJudged, ackedMore, acks, dropBytes, dropped, ackDrops, movedBack, back, settled, lossJudged, lost, lostBytes, retransmits, cutOff, unsent, stops, shuts, raised}
 use Rattle.send_buf.proofs.Chunks.{front-in, copied-in, copied-le, total-sent, total-behind}
 use Rattle.send_buf.proofs.Position.{copied-some, front-below}
 use Rattle.send_buf.proofs.Acked.{upto-weak, ack-upto, placed-all}
@@ -223,3 +225,8 @@ module _ (s : Send) (ar out : List ℕ) where
   emit-gives e =
       let k : ℕ = emitCount s (length out) in
       simp e (take-at (held ar (front s) k) (drop k out) k (length-held ar (front s) k))
+
+-- a loss of no bytes, strictly inside a chunk, splits it there
+pub empty-splits : (c : RangeBuf) (cs : List RangeBuf) (a : ℕ) → c .off < a → a < end c
+    → back (c ∷ cs) a a ≡ movedBack (leftPart c (a - c .off)) a ∷ rightPart c (a - c .off) ∷ cs
+empty-splits c cs a h k = simp (lt-leb a (c .off) h, le-ltb (end c) a (omega arith), lt-ltb a (end c) k)
