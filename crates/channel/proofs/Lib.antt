@@ -12,4 +12,5 @@ pub mod Cuts
 pub mod Table
 pub mod Ends
 pub mod NoStall
+pub mod Lent
 mod StallRuns

@@ -1,4 +1,4 @@
--- A send buffer and a receive buffer, joined by a channel that loses, repeats and reorders frames (document 01, "Premises of demand 3").
+-- A send buffer and a receive buffer, joined by a channel that loses, repeats and reorders frames (RULES 8).
 --
 --      write              emit              deliver              read
 --     ------> send buffer -----> frames ~~~~~~~~~~~> receive buffer ----->
@@ -25,6 +25,7 @@ use Rattle.refusal.specs.declared.CountAnswer.{CountAnswer}
 use Rattle.refusal.specs.declared.CountAnswer.the-variants.{Count, Refused as NoCount}
 use Rattle.refusal.specs.declared.EmitAnswer.{EmitAnswer}
 use Rattle.refusal.specs.declared.EmitAnswer.the-variants.{Emitted, Refused as NoBytes}
+use Rattle.refusal.specs.declared.OptionU64.{OptionU64}
 use Rattle.send_buf.specs.declared.SendBuf.{SendBuf}
 use Rattle.send_buf.specs.State.{Send, viewOf as sendView}
 use Rattle.send_buf.specs.Rules as send
@@ -109,6 +110,7 @@ pub data Move : Type 0 where
   commit : (now : ℕ) → Move  -- the receiver commits its next limit, at this time
   tune : (now rtt : ℕ) → Move  -- and autotunes its window
   raise : (k : ℕ) → Move  -- the sender's limit is raised to the k-th limit granted
+  block : (at : OptionU64) → Move  -- the sender records where it is blocked, or that it is not
   ack : (k : ℕ) → Move  -- the k-th frame accepted is acked
   ackDrop : (k : ℕ) → Move  -- it is acked, and what is acked so far is dropped
   lose : (k : ℕ) → Move  -- the k-th frame ever emitted is reported lost
@@ -153,6 +155,10 @@ emits x out =
 
 unfoldable pub raises : SendEnd → ℕ → SendEnd
 raises x limit = withSend x (send.raised (sender x) limit .buf)
+
+-- any offset, or none: nothing asks whether it is the limit
+unfoldable pub blocks : SendEnd → OptionU64 → SendEnd
+blocks x at = withSend x (send.blockedAt (sender x) at)
 
 unfoldable pub acks : SendEnd → Frame → SendEnd
 acks x f = withSend x (send.acks (sender x) (f .from) (length (f .bytes)) .buf)
@@ -227,6 +233,7 @@ step y (read out) = onRecv y (reads (y .rcv) out)
 step y (commit now) = onRecv y (commits (y .rcv) now)
 step y (tune now rtt) = onRecv y (tunes (y .rcv) now rtt)
 step y (raise k) = named (getElem? (y .rcv .granted) k) (λ limit. onSend y (raises (y .snd) limit)) y
+step y (block at) = onSend y (blocks (y .snd) at)
 step y (ack k) = named (getElem? (y .rcv .accepted) k) (λ f. onSend y (acks (y .snd) f)) y
 step y (ackDrop k) = named (getElem? (y .rcv .accepted) k) (λ f. onSend y (ackDrops (y .snd) f)) y
 step y (lose k) = named (getElem? (y .snd .frames) k) (λ f. onSend y (loses (y .snd) f)) y
