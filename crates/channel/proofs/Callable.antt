@@ -1,5 +1,5 @@
--- In every schedule each call finds its buffer as its contract requires it: both are good at creation, also a refused one, and every move keeps
--- them so. Assumes nothing.
+-- In every schedule each call finds its buffer in a state that its contract accepts: both buffers are good at creation, even a refused one, and
+-- every move keeps them good. Assumes nothing.
 use mathlib.Core.Option.{Option, none, some}
 use mathlib.Core.List.{List, [], _∷_}
 use lib.ListN.{length, getElem?}

@@ -7,11 +7,11 @@
 --
 --   lent-commit, lent-tune             of any buffer: the window lent and handed back is the buffer's own commit, or autotune
 --   lent-limit, lent-window            and what the lent call answers is the limit, or the window, that this leaves in the buffer
---   commit-calls, tune-calls           the same, word for word from the contracts of the three calls
+--   commit-calls, tune-calls           the same, from the contracts of the three calls as they read
 --   lent-commit-move, lent-tune-move   in the joined system: one loan is one move
 --   lent-loop                          and any number of them in turn, before the window is handed back, are as many moves
---   lent-schedule                      so a schedule that goes on with such a loop is a schedule of moves
---   lent-callable                      in every schedule, the window is good before and after each loan, as the contracts of the calls require
+--   lent-schedule, lent-safe           so a schedule with such loops anywhere in it is a schedule of moves, and safe
+--   lent-callable                      in every schedule the window is good before the first loan and after each, as the contracts require
 use mathlib.Core.Path.{_≡_, refl, sym, ap, subst, _∙_}
 use mathlib.Core.List.{List, [], _∷_, _++_, append-nil, append-assoc}
 use Prim.Native.Nat.{ℕ}

@@ -1,8 +1,8 @@
 -- The receive table that cannot fill, and the reader that cannot be stalled, over every schedule of the joined system. Assumes nothing.
 --
--- THE RULE is one for the emitter alone: every frame ENDS at a cut point: a multiple of L, or the final size (`Ended`; cut points in general:
--- `Grid` of Cuts). Where frames start then takes care of itself: at a cut, or at a byte that was acked, which the receiver has. Writes may be
--- of any length, and the channel may lose, repeat and reorder as it likes. A is the receiver's arena, `recvRoom`.
+-- THE RULE binds the emitter alone: every frame ENDS at a cut point, which is a multiple of L or the final size (`Ended`; cut points in
+-- general: `Grid` of Cuts). Frames then start at a cut, or at a byte that was acked, which the receiver has. Writes may be of any length, and
+-- the channel may lose, repeat and reorder. A is the receiver's arena, `recvRoom`.
 --
 --   ends-suffice     A ≤ 63 L: no frame ever emitted, delivered now, is refused TableFull
 --   ends-unblock     A < 64 L: with nothing ready, a frame ever emitted that brings the byte at off, and has at most A bytes, is accepted,

@@ -1,5 +1,5 @@
--- Demand 3 is not empty. Schedules, computed: under its premises, streams finish and are whole in all the ways that one would ask about
--- (`streams-lawful`, `streams-end`), and `completeness` applies to one that waits to be read (`byte-by-byte`). Assumes nothing.
+-- Demand 3 is not empty: eleven computed schedules meet its premises (`streams-lawful`), finish, and are whole (`streams-end`), and
+-- `completeness` applies to one that waits to be read (`byte-by-byte`). Assumes nothing.
 use mathlib.Core.Path.{_≡_, refl, sym, ap, _∙_}
 use mathlib.Core.Logic.{inl, inr}
 use mathlib.Core.Bool.{Bool, true, false, _&&_, _||_}
@@ -31,7 +31,7 @@ use Rattle.tables.proofs.Tests.{either, clash, and-true, or-true}
 use Rattle.refusal.specs.Rules as words
 use Rattle.refusal.proofs.Answers.{known-is}
 
--- ---- what is computed: a test for `Finished`, and what there is to see at the end
+-- ---- what is computed: a test for `Finished`, and what is seen at the end
 
 abbrev brings : List Frame → ℕ → Bool
 brings [] o = false

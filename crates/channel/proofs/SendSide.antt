@@ -61,7 +61,7 @@ new-carries A limit ar a top e l =
 
 -- ---- write
 
--- a final size known before stays
+-- a known final size stays
 fin-stays : (f : OptionU64) (off n : ℕ) (mk : Bool) → send.passesFinal f (off + n) mk ≡ false → ((x : ℕ) → f ≡ Some x → x ≡ off)
     → (x : ℕ) → f ≡ Some x → words.finWith f (off + n) mk ≡ Some x
 fin-stays f off n false b h x e = e
