@@ -1,6 +1,6 @@
--- A sender whose frames END at cut points: then they also start at one, save at the first chunk held. Assumes nothing.
+-- A sender whose frames END at cut points: then they also start at one, except at the first chunk held. Assumes nothing.
 --
---   Fronts        where bytes to send begin behind bytes sent there is a cut: so the front is one, or the begin of the first chunk     front-at
+--   Fronts        where bytes to send begin behind bytes sent there is a cut: so the front is one, or the start of the first chunk     front-at
 --                 kept by every call, if frames end at cuts      fronts-sent, fronts-cut, fronts-append, fronts-behind, fronts-back
 --   Ends          every acked range ends at a cut: kept when one more enters, and so contiguous ack is one                ends-placed, ack-ends
 --   Poised        the two, of a send buffer: kept by every call                          poised-wrote, poised-sent, poised-acked, poised-dropped, poised-lost
@@ -88,7 +88,7 @@ module _ (Cut : ℕ → Type 0) where
   fronts-weak u u′ off (c ∷ cs) f h =
       (either (h .0) (λ x. inl x) (λ y. either y (λ x. inr (inl x)) (λ x. inr (inr (x .0, f (x .1))))), h .1)
 
-  -- the front is a cut, or the begin of the first chunk
+  -- the front is a cut, or the start of the first chunk
   pub front-at : (i u lo : ℕ) (cs : List RangeBuf) (hi : ℕ) → Adjoin lo cs hi → Spent i cs → Fronts Cut u hi cs
       → Cut (frontOf (drop i cs) hi) ⊎ ((0 < u) × (frontOf (drop i cs) hi ≡ lo))
   front-at zero u lo [] hi k s h = either h (λ x. inl x) (λ x. inr (x, sym k))
@@ -174,7 +174,7 @@ module _ (Cut : ℕ → Type 0) where
 
   -- ---- retransmit of a..e
 
-  -- a chunk moved back begins at a, or where it began, or whole at its begin
+  -- a chunk moved back begins at a, or where it began, or is whole again
   moved-begin : (c : RangeBuf) (a u : ℕ) → (c .off < a → Cut a) → (Cut a × (c .off ≤ a)) ⊎ (0 < u) → Begin Cut u c → Begin Cut u (movedBack c a)
   moved-begin c a u r q h = cases (c .off) a
       (λ w. cases (c .pos) (a - c .off)
@@ -240,7 +240,7 @@ pub poised-new : (Cut : ℕ → Type 0) (A limit : ℕ) → Poised Cut (newSend 
 poised-new Cut A limit = record { fronts = inr (omega arith); ends = tt }
 
 module _ (Cut : ℕ → Type 0) (s : Send) (g : GoodSend s) (p : Poised Cut s) where
-  -- where the next frame starts: at a cut, or at the begin of the first chunk
+  -- where the next frame starts: at a cut, or at the start of the first chunk
   pub front-is : Cut (front s) ⊎ (front s ≡ begin s)
   front-is = either (front-at Cut (s .pos) 1 (begin s) (s .chunks) (s .off) (g .adjoin) (g .spent) (p .fronts)) (λ x. inl x) (λ x. inr (x .1))
 

@@ -17,9 +17,9 @@ use Rattle.recv_buf.specs.declared.Outcome.{Outcome as RecvOutcome}
 use Rattle.recv_buf.specs.State.{Recv, bufOf as recvBuf}
 use Rattle.recv_buf.specs.Rules as recv
 use Rattle.recv_buf.proofs.Good.{view-buf}
-use Rattle.channel.specs.System.{SendEnd, RecvEnd, System, sender, receiver, Setup, fresh, Premises, Move, write, emit, deliver, read, commit, tune, raise, ack, ackDrop, lose, onSend, onRecv, named, step, run}
+use Rattle.channel.specs.System.{SendEnd, RecvEnd, System, sender, receiver, Setup, fresh, Premises, Move, write, emit, deliver, read, commit, tune, raise, block, ack, ackDrop, lose, onSend, onRecv, named, step, run}
 use Rattle.channel.proofs.Lists.{all-at}
-use Rattle.channel.proofs.SendSide.{Carries, new-carries, Honest, SendInv, SendStep, writes-step, emits-step, raises-step, acks-step, ackDrops-step, loses-step}
+use Rattle.channel.proofs.SendSide.{Carries, new-carries, Honest, SendInv, SendStep, writes-step, emits-step, raises-step, blocks-step, acks-step, ackDrops-step, loses-step}
 use Rattle.channel.proofs.RecvSide.{Has, new-follows, RecvInv, RecvStep, more-inv, takes-step, reads-step, commits-step, tunes-step}
 use Rattle.tables.proofs.Tests.{undecided}
 
@@ -113,6 +113,7 @@ inv-step y (raise k) i =
     named-elim Inv (getElem? (y .rcv .granted) k) _ y
     (λ v e. inv-send y i v _ (all-at (λ (x : ℕ). x ≤ receiver (y .rcv) .flow .«max_data») (y .rcv .granted) k v e (i .recv-inv .grants)) (raises-step (y .snd) (i .send-inv) v))
     i
+inv-step y (block at) i = inv-send y i 0 _ (omega arith) (blocks-step (y .snd) (i .send-inv) at)
 inv-step y (ack k) i = named-elim Inv (getElem? (y .rcv .accepted) k) _ y (λ f e. inv-send y i 0 _ (omega arith) (acks-step (y .snd) (i .send-inv) f)) i
 inv-step y (ackDrop k) i = named-elim Inv (getElem? (y .rcv .accepted) k) _ y (λ f e. inv-send y i 0 _ (omega arith) (ackDrops-step (y .snd) (i .send-inv) f)) i
 inv-step y (lose k) i = named-elim Inv (getElem? (y .snd .frames) k) _ y (λ f e. inv-send y i 0 _ (omega arith) (loses-step (y .snd) (i .send-inv) f)) i

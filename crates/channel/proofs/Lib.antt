@@ -1,4 +1,5 @@
--- The proof of demand 3 (`Demand3`), and schedules that show that it is not empty (`Runs`) and that its premises are needed (`Needed`).
+-- The proof of demand 3 (`Demand3`); schedules that show that it is not empty (`Runs`) and that its premises are needed (`Needed`); the window
+-- lent in place (`Lent`); when the receive table cannot fill (`NoStall`) and when it does (`StallRuns`).
 pub mod Callable
 pub mod Lists
 pub mod Stream
@@ -12,4 +13,5 @@ pub mod Cuts
 pub mod Table
 pub mod Ends
 pub mod NoStall
+pub mod Lent
 mod StallRuns

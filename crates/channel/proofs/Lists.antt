@@ -1,4 +1,4 @@
--- What all of a list have, and one of it. Assumes nothing.
+-- What holds of every element of a list, and what of one. Assumes nothing.
 use mathlib.Core.Path.{_≡_, subst}
 use mathlib.Core.Logic.{inl, inr}
 use mathlib.Core.Option.{some}
@@ -34,7 +34,7 @@ all-at P [] i x e k = let z : _≡_ {A = ℕ} 0 1 = cc in absurd (omega arith)
 all-at P (y ∷ ys) zero x e k = let p : y ≡ x = cc in subst P p (k .0)
 all-at P (y ∷ ys) (suc i) x e k = all-at P ys i x e (k .1)
 
--- what all have, the one that has P has too
+-- where Q holds of all, it holds of the one that has P
 pub all-one {ℓ} : (P Q : Frame → Type 0) {C : Type ℓ} (fs : List Frame) → All Q fs → OneOf P fs → ((f : Frame) → P f → Q f → C) → C
 all-one P Q [] k h c = absurd h
 all-one P Q (f ∷ fs) k (inl h) c = c f h (k .0)

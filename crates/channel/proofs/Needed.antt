@@ -1,5 +1,5 @@
--- The premises of demand 3 are needed. For each of them (document 01, "Premises of demand 3"), a schedule, computed, that keeps all the others:
--- and something that demand 3 promises is not so. Two that the proof does not use stand at the end. Assumes nothing.
+-- The premises of demand 3 are needed. For each of them (RULES 8) a computed schedule keeps all the others and breaks something that demand 3
+-- promises. The two that the proof does not use stand at the end. Assumes nothing.
 use mathlib.Core.Path.{_≡_, refl}
 use mathlib.Core.Bool.{true, false}
 use mathlib.Core.List.{List, [], _∷_, _++_}
@@ -62,7 +62,7 @@ recvCleared x = record { buf = x .buf; arena = replicate 8 0; out = x .out; acce
 abbrev written : System
 written = run (fresh (setup 8 8 8 64 8)) (write ab true ∷ [])
 
--- another window put in the place of the receiver's
+-- a foreign window handed back in place of the receiver's
 abbrev otherWindow : RecvEnd → RecvEnd
 otherWindow x =
     record { buf = recv.flowBack (receiver x) (flow.fresh 2 2 64); arena = x .arena; out = x .out; accepted = x .accepted; granted = x .granted }
@@ -78,7 +78,7 @@ noRoom = run came (drain (replicate 9 []))
 abbrev overRaised : System
 overRaised = let y = fresh (setup 2 8 2 64 8) in run (onSend y (raises (y .snd) 8)) three
 
--- what comes out if the frame f is delivered, which emit did not give
+-- what comes out if a frame f is delivered that emit did not give
 abbrev given : Frame → List ℕ
 given f = run (onRecv sent (takes (sent .rcv) f)) (read (room 9) ∷ []) .rcv .out
 
@@ -88,14 +88,14 @@ pretended =
     let y = run (fresh (setup 8 8 8 64 2)) (three ++ deliver 0 ∷ []) in
     onRecv y (record { buf = y .rcv .buf; arena = y .rcv .arena; out = y .rcv .out; accepted = frame ∷ []; granted = y .rcv .granted })
 
--- ---- and what becomes of demand 3
+-- ---- what becomes of demand 3
 
 pub record Needed : Type 0 where
   -- with all premises, the frame is accepted
   pub lawful : (sent .snd .frames ≡ frame ∷ []) × (onDelivery (sent .rcv) frame ≡ Done)
-  -- "The sender's starting limit is at most the receiver's": else an honest frame is over the limit
+  -- the sender's starting limit is at most the receiver's: else an honest frame is over the limit
   pub starting : (lowLimit .snd .frames ≡ frame ∷ []) × (onDelivery (lowLimit .rcv) frame ≡ Refused OverLimit)
-  -- "The receiver's starting limit is at most its maximum window": else the first commit takes the limit from 8 to 2, under a frame on its way
+  -- the receiver's starting limit is at most its maximum window: else the first commit takes the limit from 8 to 2, under a frame on its way
   pub in-window : (lowWindow .snd .frames ≡ frame ∷ []) × (onDelivery (lowWindow .rcv) frame ≡ Refused OverLimit)
   -- the receive buffer's creation is not refused, and its arena is the one it was created for: else every frame is refused. (A send buffer
   -- so misused breaks nothing: it accepts no byte and emits no frame)
@@ -104,25 +104,25 @@ pub record Needed : Type 0 where
   pub large-arena : onDelivery (withArena 64 65537 (replicate 9 0)) frame ≡ Refused BadSetup
   pub large-window : onDelivery (withArena (2 ^ 62) 8 (replicate 8 0)) frame ≡ Refused BadSetup
   pub idle-sender : (idle .written ≡ []) × (idle .frames ≡ [])
-  -- "Each buffer has an arena to itself, changed only by that buffer's calls": else other bytes come out
+  -- each buffer has an arena to itself, changed only by that buffer's calls: else other bytes come out
   pub own-send-arena : run (onSend written (sendCleared (written .snd))) (emit (room 3) ∷ deliver 0 ∷ read (room 3) ∷ []) .rcv .out ≡ 0 ∷ 0 ∷ 0 ∷ []
   pub own-recv-arena : run (onRecv came (recvCleared (came .rcv))) (read (room 3) ∷ []) .rcv .out ≡ 0 ∷ 0 ∷ 0 ∷ []
-  -- "The receiver's window changes only by its buffer's calls, by commits and by autotuning": else an honest frame is over the limit
+  -- the receiver's window changes only by its buffer's calls, by commits and by autotuning: else an honest frame is over the limit
   pub own-window : onDelivery (otherWindow (sent .rcv)) frame ≡ Refused OverLimit
-  -- "Draining is receive emits, each with room for at least one byte": else nothing comes, in more reads than there are bytes and chunks
+  -- draining is receive emits, each with room for at least one byte: else nothing comes, in more reads than there are bytes and chunks
   pub some-room : (isFinished came ≡ true) × (toDrain came ≡ 4) × (noRoom .rcv .out ≡ []) × (onRead (noRoom .rcv) [] ≡ Emitted 0 false)
-  -- "raised only to limits that the receiver's window has committed": else the sender emits what is over the limit
+  -- the sender's limit is raised only to limits that the receiver's window has committed: else the sender emits what is over the limit
   pub committed : (overRaised .snd .frames ≡ frame ∷ []) × (onDelivery (overRaised .rcv) frame ≡ Refused OverLimit)
-  -- "Frames are what emit gave, at the front offset before it": with other bytes, or at another offset, other bytes come out
+  -- frames are what emit gave, at the front offset before it: with other bytes, or at another offset, other bytes come out
   pub own-bytes : given (record { from = 0; bytes = 97 ∷ 98 ∷ 98 ∷ []; fin = true }) ≡ 97 ∷ 98 ∷ 98 ∷ []
   pub own-offset : given (record { from = 0; bytes = 98 ∷ 99 ∷ []; fin = true }) ≡ 98 ∷ 99 ∷ []
-  -- "A refused frame counts as lost": else the stream counts as finished, and the reader is told Done with nothing read
+  -- a refused frame counts as lost: else the stream counts as finished, and the reader is told Done with nothing read
   pub refused-lost : (onDelivery (pretended .rcv) frame ≡ Refused NoRoom) × (isFinished pretended ≡ true)
       × (onRead (pretended .rcv) (room 1) ≡ NoBytes NothingReady) × (pretended .rcv .out ≡ [])
-  -- "Ack calls name accepted frames": the proof does not use it. But an ack of a frame that was not accepted takes its bytes away for good:
+  -- ack calls name accepted frames: the proof does not use it. But an ack of a frame that was not accepted takes its bytes away for good:
   -- after the loss report there is nothing to send again but the mark, and the stream is never finished
   pub wrong-ack : run (onSend sent (ackDrops (sent .snd) frame)) (lose 0 ∷ emit (room 9) ∷ []) .snd .frames ≡ frame ∷ record { from = 3; bytes = []; fin = true } ∷ []
-  -- "loss calls name any emitted one": the proof does not use it, as what was never emitted is refused
+  -- loss calls name any emitted frame: the proof does not use it, since what was never emitted is refused
   pub wrong-loss : send.lossJudged (sender (written .snd)) 0 3 ≡ Refused NeverSent
 
 pub needed : Needed

@@ -1,8 +1,8 @@
 -- The receive table that cannot fill, and the reader that cannot be stalled, over every schedule of the joined system. Assumes nothing.
 --
--- THE RULE is one for the emitter alone: every frame ENDS at a cut point: a multiple of L, or the final size (`Ended`; cut points in general:
--- `Grid` of Cuts). Where frames start then takes care of itself: at a cut, or at a byte that was acked, which the receiver has. Writes may be
--- of any length, and the channel may lose, repeat and reorder as it likes. A is the receiver's arena, `recvRoom`.
+-- THE RULE binds the emitter alone: every frame ENDS at a cut point, which is a multiple of L or the final size (`Ended`; cut points in
+-- general: `Grid` of Cuts). Frames then start at a cut, or at a byte that was acked, which the receiver has. Writes may be of any length, and
+-- the channel may lose, repeat and reorder. A is the receiver's arena, `recvRoom`.
 --
 --   ends-suffice     A ≤ 63 L: no frame ever emitted, delivered now, is refused TableFull
 --   ends-unblock     A < 64 L: with nothing ready, a frame ever emitted that brings the byte at off, and has at most A bytes, is accepted,
@@ -28,6 +28,7 @@ use Rattle.refusal.specs.declared.Answer.{Answer}
 use Rattle.refusal.specs.declared.Answer.the-variants.{Done, Refused}
 use Rattle.refusal.specs.declared.Refusal.the-variants.{TableFull, Done as NothingReady}
 use Rattle.refusal.proofs.Answers.{not-both}
+use Rattle.refusal.specs.declared.OptionU64.{OptionU64}
 use Rattle.arena.proofs.Laws.{length-held}
 use Rattle.ranges.specs.Rules.{memberOf}
 use Rattle.flowcontrol.specs.declared.FlowControl.{FlowControl}
@@ -46,7 +47,7 @@ use Rattle.recv_buf.specs.Rfc9000.{Frame, endOf, Brings}
 use Rattle.recv_buf.proofs.Good.{view-buf}
 use Rattle.recv_buf.proofs.Lists.{held-ready}
 use Rattle.recv_buf.proofs.Kept.{wrote-good}
-use Rattle.channel.specs.System.{SendEnd, RecvEnd, System, sender, receiver, Setup, fresh, Premises, Move, write, emit, deliver, read, commit, tune, raise, ack, ackDrop, lose, withSend, writes, frameOf, emits, raises, acks, ackDrops, loses, acceptedBy, takes, reads, bytesOf, commits, tunes, step, run, onSend, onRecv}
+use Rattle.channel.specs.System.{SendEnd, RecvEnd, System, sender, receiver, Setup, fresh, Premises, Move, write, emit, deliver, read, commit, tune, raise, block, ack, ackDrop, lose, withSend, writes, frameOf, emits, raises, blocks, acks, ackDrops, loses, acceptedBy, takes, reads, bytesOf, commits, tunes, step, run, onSend, onRecv}
 use Rattle.channel.specs.Demand3.{onDelivery}
 use Rattle.channel.proofs.Lists.{All, all-map, all-append, all-left, all-last, all-at}
 use Rattle.channel.proofs.SendSide.{Honest}
@@ -76,6 +77,10 @@ module _ (P : Send → Type 0) (x : SendEnd) where
   raises-elim limit f g = cond-elim (λ (o : SendOutcome). P (sender (withSend x (o .buf)))) (ltb M limit)
       (λ _. subst P (sym (view-of (sender x))) g)
       (λ _. subst P (sym (view-of (send.withLimit (sender x) (max (sender x .limit) limit) (sender x .blocked)))) f)
+
+  blocks-elim : (at : OptionU64) → P (send.withLimit (sender x) (sender x .limit) at) → P (sender (blocks x at))
+  unfolding blocks send.blockedAt
+  blocks-elim at f = subst P (sym (view-of (send.withLimit (sender x) (sender x .limit) at))) f
 
   module _ (f : Frame) where
     acks-elim : (send.ackJudged (sender x) (f .from) (length (f .bytes)) ≡ Done → P (send.ackedMore (sender x) (f .from) (length (f .bytes))))
@@ -267,6 +272,12 @@ module _ (Cut : ℕ → Type 0) (L top A : ℕ) (grid : Grid Cut L top) where
         (sender-same s frames r got t (send.withLimit s (max (s .limit) limit) (s .blocked)) (record { fronts = t .poised .fronts; ends = t .poised .ends }) refl refl)
         t
 
+    track-blocks : (at : OptionU64) → Track Cut top A (onSend y (blocks (y .snd) at))
+    unfolding blocks
+    track-blocks at =
+        blocks-elim Sends (y .snd) at
+        (sender-same s frames r got t (send.withLimit s (s .limit) at) (record { fronts = t .poised .fronts; ends = t .poised .ends }) refl refl)
+
     track-loses : (f : Frame) → Ended Cut top f → Start Cut (begin s) r f → Track Cut top A (onSend y (loses (y .snd) f))
     unfolding loses
     track-loses f c b =
@@ -406,6 +417,7 @@ module _ (Cut : ℕ → Type 0) (L top A : ℕ) (grid : Grid Cut L top) where
   track-step y (tune now rtt) i t c d = track-tunes y i t now rtt
   track-step y (raise k) i t c d =
       named-elim (Track Cut top A) (getElem? (y .rcv .granted) k) (λ limit. onSend y (raises (y .snd) limit)) y (λ limit e. track-raises y i t limit) t
+  track-step y (block at) i t c d = track-blocks y i t at
   track-step y (ack k) i t c d =
       named-elim (Track Cut top A) (getElem? (y .rcv .accepted) k) (λ f. onSend y (acks (y .snd) f)) y
       (λ f e. track-acks y i t f (all-at (λ (f : Frame). Cut (endOf f)) (y .rcv .accepted) k f e (t .ends)) (covered y i k f e)) t
@@ -418,7 +430,7 @@ module _ (Cut : ℕ → Type 0) (L top A : ℕ) (grid : Grid Cut L top) where
 
   -- frames are only added
   frames-step : (P : Frame → Type 0) (y : System) (m : Move) → All P (step y m .snd .frames) → All P (y .snd .frames)
-  unfolding writes emits raises acks ackDrops loses
+  unfolding writes emits raises blocks acks ackDrops loses
   frames-step P y (write input fin) h = h
   frames-step P y (emit out) h = all-left P (y .snd .frames) _ h
   frames-step P y (deliver k) h =
@@ -428,6 +440,7 @@ module _ (Cut : ℕ → Type 0) (L top A : ℕ) (grid : Grid Cut L top) where
   frames-step P y (tune now rtt) h = h
   frames-step P y (raise k) h =
       named-elim (λ (z : System). All P (z .snd .frames) → All P (y .snd .frames)) (getElem? (y .rcv .granted) k) (λ limit. onSend y (raises (y .snd) limit)) y (λ f e g. g) (λ g. g) h
+  frames-step P y (block at) h = h
   frames-step P y (ack k) h =
       named-elim (λ (z : System). All P (z .snd .frames) → All P (y .snd .frames)) (getElem? (y .rcv .accepted) k) (λ f. onSend y (acks (y .snd) f)) y (λ f e g. g) (λ g. g) h
   frames-step P y (ackDrop k) h =
@@ -604,6 +617,7 @@ stuck-step y (commit now) g = stuck-commits (y .rcv) g now
 stuck-step y (tune now rtt) g = stuck-tunes (y .rcv) g now rtt
 stuck-step y (raise k) g =
     named-elim (λ (z : System). Stuck (y .rcv) (z .rcv)) (getElem? (y .rcv .granted) k) (λ limit. onSend y (raises (y .snd) limit)) y (λ f e. stuck-same (y .rcv) g) (stuck-same (y .rcv) g)
+stuck-step y (block at) g = stuck-same (y .rcv) g
 stuck-step y (ack k) g =
     named-elim (λ (z : System). Stuck (y .rcv) (z .rcv)) (getElem? (y .rcv .accepted) k) (λ f. onSend y (acks (y .snd) f)) y (λ f e. stuck-same (y .rcv) g) (stuck-same (y .rcv) g)
 stuck-step y (ackDrop k) g =

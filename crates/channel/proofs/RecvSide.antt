@@ -181,7 +181,7 @@ module _ (W : List ℕ) (sf : OptionU64) (r : Recv) (ar : List ℕ) (f : Frame) 
           fin-known = fin-after sf (r .fin) (f .from + n) (f .fin) (h .marked) (g .fin-known);
         }) (wrote-good r (f .from) n (f .fin) (g .good) (length ar) said)
 
-  -- within the limit, it is refused for want of room or of a table entry only
+  -- within the limit, it is refused only for want of room or of a table entry
   module _ (final : (x : ℕ) → sf ≡ Some x → x ≡ length W) where
     fits-final : recv.passesFinal (r .fin) (r .len) (f .from + n) (f .fin) ≡ false
     fits-final = go (r .fin) (g .fin-known) (f .fin) (h .marked)
@@ -402,7 +402,7 @@ module _ (W : List ℕ) (sf : OptionU64) (x : RecvEnd) (i : RecvInv W sf x) wher
     pub answer-idle : recv.isReady (r .chunks) (r .off) ≡ false → onRead x out ≡ NoBytes NothingReady
     answer-idle e = ap (λ (o : EmitOutcome). o .answer) (emitted-is (Refused NothingReady) (judged-idle W sf r (x .arena) (i .follows) (length out) e))
 
-    -- what is covered stays so, and a known final size is known
+    -- what is covered stays covered, and a known final size stays known
     took : recv.isReady (r .chunks) (r .off) ≡ true
         → Gets (r .flow .«max_data») W sf (recv.tookOut r (length out)) (x .arena) (x .out ++ held (x .arena) (r .off) k) (x .accepted) (x .granted)
     unfolding recv.tookOut

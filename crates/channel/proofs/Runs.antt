@@ -1,20 +1,21 @@
--- Demand 3 is not empty. Schedules, computed: under its premises, streams finish and are whole in all the ways that one would ask about
--- (`streams-lawful`, `streams-end`), and `completeness` applies to one that waits to be read (`byte-by-byte`). Assumes nothing.
+-- Demand 3 is not empty: eleven computed schedules meet its premises (`streams-lawful`), finish, and are whole (`streams-end`), and
+-- `completeness` applies to one that waits to be read (`byte-by-byte`). Assumes nothing.
 use mathlib.Core.Path.{_≡_, refl, sym, ap, _∙_}
 use mathlib.Core.Logic.{inl, inr}
 use mathlib.Core.Bool.{Bool, true, false, _&&_, _||_}
-use mathlib.Core.List.{List, [], _∷_}
+use mathlib.Core.List.{List, [], _∷_, _++_}
 use Prim.Native.Nat.{ℕ, zero, suc, _≤_, _<_}
 use native.Mathlib.Omega.{arith}
 use lib.Dec.{ltb, leb}
-use lib.ListN.{length, take, replicate, length-replicate}
+use lib.ListN.{length, take, drop, replicate, length-replicate}
 use borrow.Author.Tests.{leb-true, ltb-true}
 use Rattle.refusal.specs.Rules.{M}
+use Rattle.refusal.specs.declared.CountAnswer.the-variants.{Count}
 use Rattle.refusal.specs.declared.EmitAnswer.{EmitAnswer}
 use Rattle.refusal.specs.declared.EmitAnswer.the-variants.{Refused as NoBytes}
 use Rattle.refusal.specs.declared.Refusal.the-variants.{Done as NothingReady}
 use Rattle.refusal.specs.declared.OptionU64.{OptionU64}
-use Rattle.refusal.specs.declared.OptionU64.the-variants.{Some}
+use Rattle.refusal.specs.declared.OptionU64.the-variants.{None, Some}
 use Rattle.arena.specs.Rules.{kept, held}
 use Rattle.tables.proofs.Tables.{cases}
 use Rattle.send_buf.specs.State.{bufOf as sendBuf}
@@ -22,7 +23,7 @@ use Rattle.send_buf.specs.Rules as send
 use Rattle.recv_buf.specs.State.{bufOf as recvBuf}
 use Rattle.recv_buf.specs.Rules as recv
 use Rattle.recv_buf.specs.Rfc9000.{Frame, endOf, Brings}
-use Rattle.channel.specs.System.{System, sender, receiver, Setup, fresh, Premises, Move, write, emit, deliver, read, commit, tune, raise, ack, ackDrop, lose, writes, emits, raises, acks, ackDrops, loses, takes, reads, commits, tunes, run}
+use Rattle.channel.specs.System.{System, sender, receiver, Setup, fresh, Premises, Move, write, emit, deliver, read, commit, tune, raise, block, ack, ackDrop, lose, writes, emits, raises, blocks, acks, ackDrops, loses, takes, reads, commits, tunes, run}
 use Rattle.channel.specs.Demand3.{onRead, OneOf, Finished, Whole, drain, SomeRoom, toDrain}
 use Rattle.channel.proofs.Lists.{All}
 use Rattle.channel.proofs.Demand3.{completeness}
@@ -30,7 +31,7 @@ use Rattle.tables.proofs.Tests.{either, clash, and-true, or-true}
 use Rattle.refusal.specs.Rules as words
 use Rattle.refusal.proofs.Answers.{known-is}
 
--- ---- what is computed: a test for `Finished`, and what there is to see at the end
+-- ---- what is computed: a test for `Finished`, and what is seen at the end
 
 abbrev brings : List Frame → ℕ → Bool
 brings [] o = false
@@ -200,12 +201,26 @@ journey = record {
   bytes = abc;
 }
 
+-- ten bytes under a limit of 4. Twice the limit stops the writer, who records it; the receiver reads and commits, the sender's limit is raised,
+-- the record is taken back, and the writer goes on
+abbrev stopped : List Move
+stopped = write abc true ∷ block (Some 4) ∷ []
+
+abbrev blocked : Stream
+blocked = record {
+  setup = setup 4 16 4 64 16;
+  moves = stopped
+      ++ emit (room 9) ∷ deliver 0 ∷ read (room 9) ∷ commit 5 ∷ raise 1 ∷ block None ∷ write (drop 4 abc) true ∷ block (Some 8) ∷ emit (room 9) ∷ deliver 1
+      ∷ read (room 9) ∷ commit 6 ∷ raise 2 ∷ block None ∷ write (drop 8 abc) true ∷ emit (room 9) ∷ deliver 2 ∷ read (room 9) ∷ [];
+  bytes = abc;
+}
+
 abbrev streams : List Stream
-streams = oneFrame ∷ zeroLength ∷ closedLater ∷ cutShort ∷ markLost ∷ lastBytesLost ∷ lateMark ∷ backwards ∷ twice ∷ journey ∷ []
+streams = oneFrame ∷ zeroLength ∷ closedLater ∷ cutShort ∷ markLost ∷ lastBytesLost ∷ lateMark ∷ backwards ∷ twice ∷ journey ∷ blocked ∷ []
 
 -- their setups meet the premises
 pub streams-lawful : All (λ s. Premises (s .setup)) streams
-streams-lawful = (usual, (none, (usual, (few, (usual, (usual, (usual, (usual, (usual, (small, tt))))))))))
+streams-lawful = (usual, (none, (usual, (few, (usual, (usual, (usual, (usual, (usual, (small, (few, tt)))))))))))
   where
     usual : Premises plain
     usual = premises 16 16 16 64 16 (omega arith) (omega arith) (omega arith) (omega arith) (omega arith) (omega arith) (omega arith)
@@ -229,8 +244,13 @@ wholeAll [] = []
 wholeAll (s ∷ ss) = whole (s .bytes) ∷ wholeAll ss
 
 pub streams-end : seenAll streams ≡ wholeAll streams
-unfolding fresh writes emits raises acks ackDrops loses takes reads commits tunes sendBuf recvBuf kept held send.created send.writeJudged send.wrote send.written send.writtenArena send.sent send.emitted send.emittedOut send.ackJudged send.ackedMore send.acks send.ackDrops send.lossJudged send.lost send.retransmits send.raised recv.created recv.writeJudged recv.wrote recv.written recv.writtenArena recv.takeJudged recv.tookOut recv.discarded recv.emitted recv.emittedOut recv.commits recv.autotunes
+unfolding fresh writes emits raises blocks acks ackDrops loses takes reads commits tunes sendBuf recvBuf kept held send.created send.writeJudged send.wrote send.written send.writtenArena send.sent send.emitted send.emittedOut send.ackJudged send.ackedMore send.acks send.ackDrops send.lossJudged send.lost send.retransmits send.raised send.blockedAt recv.created recv.writeJudged recv.wrote recv.written recv.writtenArena recv.takeJudged recv.tookOut recv.discarded recv.emitted recv.emittedOut recv.commits recv.autotunes
 streams-end = refl
+
+-- the blocked stream, when it is first stopped: four bytes were accepted, the limit leaves none, and the offset is recorded
+pub blocked-is : let x = run (fresh (blocked .setup)) stopped .snd in (x .written ≡ take 4 abc) × (send.cap (sender x) ≡ Count 0) × (sender x .blocked ≡ Some 4)
+unfolding fresh writes blocks sendBuf kept send.created send.writeJudged send.wrote send.written send.blockedAt
+blocked-is = (refl, refl, refl)
 
 -- ---- the theorem used: three frames that came backwards, and as many reads of one byte each as there are bytes and chunks kept
 

@@ -26,9 +26,9 @@ use Rattle.refusal.proofs.Answers.{after-elim}
 use Rattle.send_buf.proofs.Judged.{Writes, writes as writes-told}
 use Rattle.send_buf.proofs.Chunks.{adj-le, adj-base, adj-behind, adj-back, base-sent}
 use Rattle.send_buf.proofs.Facts.{skip-nothing, front-low, reached, emit-gives}
-use Rattle.send_buf.proofs.Kept.{new-good, laid, wrote-good, sent-good, acked-good, dropped-good, dropTo-in, lost-good, raised-good}
+use Rattle.send_buf.proofs.Kept.{new-good, laid, wrote-good, sent-good, acked-good, dropped-good, dropTo-in, lost-good, raised-good, blocked-good}
 use Rattle.recv_buf.specs.Rfc9000.{Frame, endOf}
-use Rattle.channel.specs.System.{SendEnd, sender, countOf, frameOf, writes, emits, raises, acks, ackDrops, loses}
+use Rattle.channel.specs.System.{SendEnd, sender, countOf, frameOf, writes, emits, raises, blocks, acks, ackDrops, loses}
 use Rattle.channel.proofs.Stream.{Agrees, agrees-more, agrees-seam, agrees-held, agrees-kept}
 use Rattle.channel.proofs.Lists.{All, all-map, all-append}
 use Rattle.tables.proofs.Tests.{or-false}
@@ -61,7 +61,7 @@ new-carries A limit ar a top e l =
 
 -- ---- write
 
--- a final size known before stays
+-- a known final size stays
 fin-stays : (f : OptionU64) (off n : ℕ) (mk : Bool) → send.passesFinal f (off + n) mk ≡ false → ((x : ℕ) → f ≡ Some x → x ≡ off)
     → (x : ℕ) → f ≡ Some x → words.finWith f (off + n) mk ≡ Some x
 fin-stays f off n false b h x e = e
@@ -167,6 +167,16 @@ module _ (W : List ℕ) (s : Send) (ar : List ℕ) (g : Carries W s ar) where
   raised-carries : (limit : ℕ) → limit ≤ M → Carries W (send.withLimit s (max (s .limit) limit) (s .blocked)) ar
   raised-carries limit h = record {
     good = raised-good s (g .good) limit h;
+    some-room = g .some-room;
+    size = g .size;
+    agree = g .agree;
+    all-written = g .all-written;
+    running = g .running;
+  }
+
+  blocked-carries : (at : OptionU64) → Carries W (send.withLimit s (s .limit) at) ar
+  blocked-carries at = record {
+    good = blocked-good s (g .good) at;
     some-room = g .some-room;
     size = g .size;
     agree = g .agree;
@@ -326,6 +336,10 @@ module _ (x : SendEnd) (i : SendInv x) where
       cond-elim (λ (o : Outcome). Goes limit x (viewOf (o .buf)) (x .arena) (x .written) (x .frames)) (ltb M limit)
       (λ _. same limit)
       (λ e. still limit _ (raised-carries (x .written) (sender x) (x .arena) (i .carries) limit (ltb-false M limit e)) refl (omega arith))
+
+  pub blocks-step : (at : OptionU64) → SendStep 0 x (blocks x at)
+  unfolding blocks send.blockedAt
+  blocks-step at = still 0 _ (blocked-carries (x .written) (sender x) (x .arena) (i .carries) at) refl (omega arith)
 
   pub acks-step : (f : Frame) → SendStep 0 x (acks x f)
   unfolding acks send.acks send.ackedMore

@@ -203,7 +203,7 @@ stall-at-64L-for-ever : (ms : List Move) → run sharp64 ms .rcv .out ≡ []
 unfolding fresh writes emits loses takes reads send.created send.written send.writeJudged send.wrote send.writtenArena send.emitted send.emittedOut send.sent send.retransmits send.lossJudged send.lost sendBufOf kept held recv.created recv.written recv.writeJudged recv.wrote recv.writtenArena recv.emitted recv.emittedOut recv.discarded recv.takeJudged recv.tookOut bufOf
 stall-at-64L-for-ever ms = stalled-run ms sharp64 sharp64-stalled .same-out
 
--- ---- what does not do
+-- ---- what does not help
 
 -- frames of at least 10 bytes: 0..10 comes late; 10..20 is reported lost and sent again with room for one byte more, 63 times over
 abbrev growing : ℕ → ℕ → ℕ → List Move

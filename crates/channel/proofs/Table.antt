@@ -1,6 +1,6 @@
 -- When a receiver's table of 64 chunks cannot be full, and what a full one means. Assumes nothing.
 --
---   Fair                        a frame whose edges are cuts, save below off or in what is kept
+--   Fair                        a frame whose edges are cuts, except below off or in what is kept
 --   Tidy                        the chunks' edges are cuts: kept by an accepted fair frame and by an emit             tidy-wrote, tidy-took
 --   not-full                    A ≤ 63 L: no fair frame is refused TableFull
 --   not-stalled, fits-at-off    A < 64 L: with nothing ready, no fair frame that brings the byte at off is; nor NoRoom, if it has at most A bytes
@@ -32,7 +32,7 @@ use Rattle.tables.proofs.Tests.{either, clash, and-true}
 
 -- ---- the calls
 
--- a frame of n bytes at s whose edges are cuts, save where they lie below off or in what is kept already; a mark is at `top`
+-- a frame of n bytes at s whose edges are cuts, except where they lie below off or in what is kept already; a mark is at `top`
 pub record Fair (Cut : ℕ → Type 0) (top : ℕ) (r : Recv) (s n : ℕ) (fin : Bool) : Type 0 where
   pub low : 0 < n → r .off < s → (Held (r .chunks) s → ⊥) → Cut s
   pub high : 0 < n → r .off < s + n → (Held (r .chunks) (s + n - 1) → ⊥) → Cut (s + n)
@@ -192,7 +192,7 @@ pub record Stalled (r : Recv) : Type 0 where
   pub idle : isReady (r .chunks) (r .off) ≡ false
   pub unshut : r .drain ≡ false
 
--- it stays so for ever: an accepted frame, of whatever kind, changes neither the chunks nor off
+-- it stays so for ever: no accepted frame changes the chunks or off
 pub stalled-write : (r : Recv) (a s n : ℕ) (fin : Bool) → Stalled r → writeJudged r a s n fin ≡ Done
     → (wrote r s n fin .chunks ≡ r .chunks) × (wrote r s n fin .off ≡ r .off) × Stalled (wrote r s n fin)
 stalled-write r a s n fin g said =

@@ -1,15 +1,16 @@
--- A send buffer and a receive buffer, joined by a channel that loses, repeats and reorders frames (document 01, "Premises of demand 3").
+-- A send buffer and a receive buffer, joined by a channel that loses, repeats and reorders frames (RULES 8).
 --
---      write              emit              deliver              read
+--      write     block    emit              deliver              read
 --     ------> send buffer -----> frames ~~~~~~~~~~~> receive buffer ----->
 --                  ^                  (any, any time,       |
 --                  |                  any number of times)  |
 --                  +---- ack, ackDrop, lose, raise <--------+ commit, tune
 --
--- The state is the two buffers themselves, each with its arena, and beside them what an onlooker would have written down. A schedule is any
--- list of moves. One move is one call of one buffer, and it does to buffer, arena and output exactly what the contract of that call says:
--- `send.written`, `recv.emitted` and the rest are the very definitions that the contracts cite, refusals included. So whatever holds here for
--- every schedule holds of the code, in every program that calls it under the premises.
+-- The state is the two buffers, each with its arena, and beside them a log: bytes accepted for writing, frames emitted and accepted, bytes
+-- handed out, limits granted. A schedule is any list of moves. One move is one call of one buffer, and it does to buffer, arena and output
+-- exactly what the contract of that call says: `send.written`, `recv.emitted` and the rest are the definitions that the contracts cite, refusals
+-- included. So what holds here for every schedule holds of the code, in every program that calls it under the premises. A loop that takes the
+-- receiver's window out, has it changed in place and hands it back makes the moves `commit` and `tune` (proofs/Lent.antt).
 --
 -- A frame is a STREAM frame of RFC 9000: offset, bytes, end mark. The k-th is counted from 0.
 use mathlib.Core.Path.{_≡_}
@@ -25,6 +26,7 @@ use Rattle.refusal.specs.declared.CountAnswer.{CountAnswer}
 use Rattle.refusal.specs.declared.CountAnswer.the-variants.{Count, Refused as NoCount}
 use Rattle.refusal.specs.declared.EmitAnswer.{EmitAnswer}
 use Rattle.refusal.specs.declared.EmitAnswer.the-variants.{Emitted, Refused as NoBytes}
+use Rattle.refusal.specs.declared.OptionU64.{OptionU64}
 use Rattle.send_buf.specs.declared.SendBuf.{SendBuf}
 use Rattle.send_buf.specs.State.{Send, viewOf as sendView}
 use Rattle.send_buf.specs.Rules as send
@@ -86,8 +88,8 @@ fresh u = record {
   };
 }
 
--- the premises. The arenas may hold anything. Neither creation is refused, the sender's limit is at most the receiver's, and that one at most
--- the maximum window
+-- the premises: neither creation is refused, each arena has the length that its buffer was created for and may hold anything, the sender's
+-- limit is at most the receiver's, and the receiver's at most its maximum window
 pub record Premises (u : Setup) : Type 0 where
   pub send-room : 0 < u .sendRoom
   pub send-room-in : u .sendRoom ≤ 65536
@@ -107,10 +109,11 @@ pub data Move : Type 0 where
   deliver : (k : ℕ) → Move  -- the channel delivers the k-th frame ever emitted: any, at any time, any number of times, or never
   read : (out : List ℕ) → Move  -- the reader takes bytes into this output; its length is the room, perhaps none
   commit : (now : ℕ) → Move  -- the receiver commits its next limit, at this time
-  tune : (now rtt : ℕ) → Move  -- and autotunes its window
+  tune : (now rtt : ℕ) → Move  -- the receiver autotunes its window, at this time
   raise : (k : ℕ) → Move  -- the sender's limit is raised to the k-th limit granted
+  block : (at : OptionU64) → Move  -- the sender records where it is blocked, or that it is not
   ack : (k : ℕ) → Move  -- the k-th frame accepted is acked
-  ackDrop : (k : ℕ) → Move  -- it is acked, and what is acked so far is dropped
+  ackDrop : (k : ℕ) → Move  -- the same, and what is acked so far is dropped
   lose : (k : ℕ) → Move  -- the k-th frame ever emitted is reported lost
 
 -- how many bytes an answer says were accepted, or handed out
@@ -137,7 +140,7 @@ writes x input fin =
       frames = x .frames;
     }
 
--- a frame is what emit gave, at the front offset before it
+-- a frame is what emit gave, at the front offset before the call
 abbrev pub frameOf : ℕ → List ℕ → EmitAnswer → List Frame
 frameOf front out (Emitted n fin) = record { from = front; bytes = take n out; fin = fin } ∷ []
 frameOf front out (NoBytes why) = []
@@ -153,6 +156,10 @@ emits x out =
 
 unfoldable pub raises : SendEnd → ℕ → SendEnd
 raises x limit = withSend x (send.raised (sender x) limit .buf)
+
+-- any offset, or none: it need not be the limit
+unfoldable pub blocks : SendEnd → OptionU64 → SendEnd
+blocks x at = withSend x (send.blockedAt (sender x) at)
 
 unfoldable pub acks : SendEnd → Frame → SendEnd
 acks x f = withSend x (send.acks (sender x) (f .from) (length (f .bytes)) .buf)
@@ -227,6 +234,7 @@ step y (read out) = onRecv y (reads (y .rcv) out)
 step y (commit now) = onRecv y (commits (y .rcv) now)
 step y (tune now rtt) = onRecv y (tunes (y .rcv) now rtt)
 step y (raise k) = named (getElem? (y .rcv .granted) k) (λ limit. onSend y (raises (y .snd) limit)) y
+step y (block at) = onSend y (blocks (y .snd) at)
 step y (ack k) = named (getElem? (y .rcv .accepted) k) (λ f. onSend y (acks (y .snd) f)) y
 step y (ackDrop k) = named (getElem? (y .rcv .accepted) k) (λ f. onSend y (ackDrops (y .snd) f)) y
 step y (lose k) = named (getElem? (y .snd .frames) k) (λ f. onSend y (loses (y .snd) f)) y
