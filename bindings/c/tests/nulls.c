@@ -5,6 +5,8 @@
  * bytes: C gives such a call no meaning.
  */
 #define _DEFAULT_SOURCE
+#include <inttypes.h>
+
 #include "testing.h"
 
 #define LEN 64 /* of each arena */
@@ -39,7 +41,7 @@ static unsigned long asked;
 static void told(const char *what, vk_answer a, uint64_t number, uint64_t first, uint64_t second) {
     char text[200];
     asked++;
-    snprintf(text, sizeof text, "%s: %llu (%llu, %llu)", what, (unsigned long long)a.number, (unsigned long long)a.first, (unsigned long long)a.second);
+    snprintf(text, sizeof text, "%s: %" PRIu64 " (%" PRIu64 ", %" PRIu64 ")", what, a.number, a.first, a.second);
     expect(text, a.number == number && a.first == first && a.second == second);
 }
 
