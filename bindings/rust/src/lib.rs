@@ -29,9 +29,9 @@
 //!
 //! `state` gives what an object holds, as plain numbers; its `to_bytes` and `from_bytes` turn that into bytes of a fixed form and
 //! back, and `from_state` makes the object again. A buffer's arena is saved beside its state, whole and of the same moment.
-//! `from_state` takes any bytes safely: it refuses with a [`BadState`] what no call can have given, so what it takes answers
-//! every call. It cannot see that a state is another stream's, that it is old, or that the arena's bytes are wrong: keep a name
-//! and a checksum beside them. Save before what a call gave leaves the program (a frame, an ack, bytes for the application): the
+//! `from_state` takes any numbers safely: it refuses with a [`BadState`] those that contradict each other, and what it takes
+//! answers every call (docs/RULES.md, 9). It cannot see that a state is another stream's, that it is old, or that the arena's
+//! bytes are wrong: keep a name and a checksum beside them. Save before what a call gave leaves the program (a frame, an ack, bytes for the application): the
 //! saved state must know all that the peer and the application have seen.
 
 #![deny(unsafe_code)]
@@ -162,7 +162,7 @@ impl RangeBuf {
         checked(out.answer).map(|_| RangeBuf(out.state))
     }
 
-    /// The chunk that had this state. Refuses what no call can have given.
+    /// The chunk that had this state. Refuses numbers that contradict each other.
     pub fn from_state(state: &RangeBufState) -> std::result::Result<RangeBuf, BadState> {
         good(raw::range_buf_is_good(*state)).map(|()| RangeBuf(*state))
     }
@@ -216,7 +216,7 @@ impl FlowControl {
         checked(out.answer).map(|_| FlowControl(out.state))
     }
 
-    /// The window that had this state. Refuses what no call can have given.
+    /// The window that had this state. Refuses numbers that contradict each other.
     pub fn from_state(state: &FlowControlState) -> std::result::Result<FlowControl, BadState> {
         good(raw::flow_control_is_good(*state)).map(|()| FlowControl(*state))
     }
@@ -283,7 +283,7 @@ impl RangeSet {
         checked(out.answer).map(|_| RangeSet(out.state))
     }
 
-    /// The set that had this state. Refuses what no call can have given.
+    /// The set that had this state. Refuses numbers that contradict each other.
     pub fn from_state(state: &RangeSetState) -> std::result::Result<RangeSet, BadState> {
         good(raw::range_set_is_good(*state)).map(|()| RangeSet(*state))
     }
@@ -403,8 +403,8 @@ impl SendBuf<'static> {
         SendBuf::over(max_data, Arena::own(arena_len))
     }
 
-    /// The buffer that had this state and these bytes in its arena, with an arena of its own. Refuses a state that no call can
-    /// have given, and an arena of another length.
+    /// The buffer that had this state and these bytes in its arena, with an arena of its own. Refuses numbers that
+    /// contradict each other, and an arena of another length.
     ///
     /// ```
     /// use valemkhor::{SendBuf, SendBufState};
@@ -595,8 +595,8 @@ impl RecvBuf<'static> {
         RecvBuf::over(max_data, max_window, Arena::own(arena_len))
     }
 
-    /// The buffer that had this state and these bytes in its arena, with an arena of its own. Refuses a state that no call can
-    /// have given, and an arena of another length.
+    /// The buffer that had this state and these bytes in its arena, with an arena of its own. Refuses numbers that
+    /// contradict each other, and an arena of another length.
     ///
     /// ```
     /// use valemkhor::{RecvBuf, RecvBufState};

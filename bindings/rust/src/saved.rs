@@ -18,7 +18,7 @@ use std::mem::size_of;
 pub enum BadState {
     /// The bytes are no saved state of this kind: another length, kind or version, or a flag that is neither 0 nor 1.
     Form,
-    /// No call can have given a state with these numbers.
+    /// The numbers pass their bounds or contradict each other: no call gave them.
     Numbers,
     /// The arena has another length than the state's.
     Arena,
@@ -28,7 +28,7 @@ impl std::fmt::Display for BadState {
     fn fmt(&self, f: &mut std::fmt::Formatter) -> std::fmt::Result {
         f.write_str(match self {
             BadState::Form => "bad state: the bytes are no saved state of this kind",
-            BadState::Numbers => "bad state: no call can have given these numbers",
+            BadState::Numbers => "bad state: its numbers contradict each other",
             BadState::Arena => "bad state: the arena has another length",
         })
     }

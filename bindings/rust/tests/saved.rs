@@ -1,4 +1,4 @@
-//! States that were saved and restored: they go on as if nothing had happened, and what no call gave is refused.
+//! States that were saved and restored: they go on as if nothing had happened, and damaged ones are refused or do no harm.
 
 use std::mem::offset_of;
 use valemkhor::BadState;
@@ -293,7 +293,7 @@ fn a_flag_is_0_or_1() {
 }
 
 #[test]
-fn numbers_that_no_call_gave_are_refused() {
+fn numbers_that_contradict_each_other_are_refused() {
     let mut send = SendBuf::new(100, 64).unwrap();
     send.write(b"abcdef", false).unwrap();
     let arena = send.arena().to_vec();
