@@ -31,8 +31,8 @@
 //! back, and `from_state` makes the object again. A buffer's arena is saved beside its state, whole and of the same moment.
 //! `from_state` takes any numbers safely: it refuses with a [`BadState`] those that contradict each other, and what it takes
 //! answers every call (docs/RULES.md, 9). It cannot see that a state is another stream's, that it is old, or that the arena's
-//! bytes are wrong: keep a name and a checksum beside them. Save before what a call gave leaves the program (a frame, an ack, bytes for the application): the
-//! saved state must know all that the peer and the application have seen.
+//! bytes are wrong: keep a name and a checksum beside them. Save before what a call gave leaves the program (a frame, an ack,
+//! bytes for the application): the saved state must know all that the peer and the application have seen.
 
 #![deny(unsafe_code)]
 #![warn(missing_docs)]

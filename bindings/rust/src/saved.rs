@@ -1,8 +1,8 @@
 //! States as bytes of a fixed form, so that a buffer can be kept across a restart. No `unsafe`: a state is built field by field.
 //!
 //! The form: eight bytes that name the kind of state and the version of the form (`vk-send1` for a send buffer), then every field
-//! in the order of its declaration, eight bytes each, the lowest first; a flag is 0 or 1. It has one length, and means the same on
-//! every machine. There is no checksum.
+//! in the order of its declaration, eight bytes each, the lowest first; a flag is 0 or 1. It has one length, and means the same
+//! on every machine. There is no checksum.
 
 use crate::raw::FlowControlState;
 use crate::raw::Number;
