@@ -24,6 +24,15 @@
 //! assert_eq!((&settings[..n], fin), (&b"trip at 253 V"[..], true));
 //! # Ok::<(), valemkhor::Refusal>(())
 //! ```
+//!
+//! # Across a restart
+//!
+//! `state` gives what an object holds, as plain numbers; its `to_bytes` and `from_bytes` turn that into bytes of a fixed form and
+//! back, and `from_state` makes the object again. A buffer's arena is saved beside its state, whole and of the same moment.
+//! `from_state` takes any numbers safely: it refuses with a [`BadState`] those that contradict each other, and what it takes
+//! answers every call (docs/RULES.md, 9). It cannot see that a state is another stream's, that it is old, or that the arena's
+//! bytes are wrong: keep a name and a checksum beside them. Save before what a call gave leaves the program (a frame, an ack,
+//! bytes for the application): the saved state must know all that the peer and the application have seen.
 
 #![deny(unsafe_code)]
 #![warn(missing_docs)]
@@ -31,6 +40,7 @@
 #[allow(unsafe_code)]
 #[allow(missing_docs)]
 mod raw;
+mod saved;
 
 pub use raw::FlowControlState;
 pub use raw::Number;
@@ -39,6 +49,7 @@ pub use raw::RangeSetState;
 pub use raw::RangeState;
 pub use raw::RecvBufState;
 pub use raw::SendBufState;
+pub use saved::BadState;
 
 use raw::Answer;
 use raw::Out;
@@ -131,6 +142,15 @@ fn step<S>(out: Out<S>, state: &mut S) -> Result<(u64, u64)> {
     checked(out.answer)
 }
 
+/// Takes what `is_good` says.
+fn good(says: bool) -> std::result::Result<(), BadState> {
+    if says {
+        Ok(())
+    } else {
+        Err(BadState::Numbers)
+    }
+}
+
 /// One chunk of a stream: offset, length, consumed part. It holds numbers only.
 #[derive(Clone, Copy, Debug, PartialEq, Eq)]
 pub struct RangeBuf(RangeBufState);
@@ -140,6 +160,11 @@ impl RangeBuf {
     pub fn from(off: u64, len: u64) -> Result<RangeBuf> {
         let out = raw::range_buf_from(off, len);
         checked(out.answer).map(|_| RangeBuf(out.state))
+    }
+
+    /// The chunk that had this state. Refuses numbers that contradict each other.
+    pub fn from_state(state: &RangeBufState) -> std::result::Result<RangeBuf, BadState> {
+        good(raw::range_buf_is_good(*state)).map(|()| RangeBuf(*state))
     }
 
     /// The offset of the first byte that is not consumed.
@@ -174,7 +199,7 @@ impl RangeBuf {
         checked(out.answer).map(|_| RangeBuf(out.right))
     }
 
-    /// The numbers that the chunk holds.
+    /// The numbers that the chunk holds: what `from_state` takes.
     pub fn state(&self) -> &RangeBufState {
         &self.0
     }
@@ -189,6 +214,11 @@ impl FlowControl {
     pub fn new(max_data: u64, window: u64, max_window: u64) -> Result<FlowControl> {
         let out = raw::flow_control_new(max_data, window, max_window);
         checked(out.answer).map(|_| FlowControl(out.state))
+    }
+
+    /// The window that had this state. Refuses numbers that contradict each other.
+    pub fn from_state(state: &FlowControlState) -> std::result::Result<FlowControl, BadState> {
+        good(raw::flow_control_is_good(*state)).map(|()| FlowControl(*state))
     }
 
     /// The window.
@@ -236,7 +266,7 @@ impl FlowControl {
         step(raw::flow_control_ensure_window_lower_bound(self.0, min_window), &mut self.0).map(|_| ())
     }
 
-    /// The numbers that the window holds.
+    /// The numbers that the window holds: what `from_state` takes.
     pub fn state(&self) -> &FlowControlState {
         &self.0
     }
@@ -251,6 +281,11 @@ impl RangeSet {
     pub fn new(capacity: usize) -> Result<RangeSet> {
         let out = raw::range_set_new(capacity);
         checked(out.answer).map(|_| RangeSet(out.state))
+    }
+
+    /// The set that had this state. Refuses numbers that contradict each other.
+    pub fn from_state(state: &RangeSetState) -> std::result::Result<RangeSet, BadState> {
+        good(raw::range_set_is_good(*state)).map(|()| RangeSet(*state))
     }
 
     /// How many ranges there are.
@@ -306,7 +341,7 @@ impl RangeSet {
         self.0 = raw::range_set_remove_until(self.0, largest);
     }
 
-    /// The numbers that the set holds.
+    /// The numbers that the set holds: what `from_state` takes.
     pub fn state(&self) -> &RangeSetState {
         &self.0
     }
@@ -344,6 +379,15 @@ impl Arena<'_> {
     fn own(len: usize) -> Self {
         Arena::Own(vec![0; if len <= 65536 { len } else { 0 }].into_boxed_slice())
     }
+
+    /// Is it the arena of a state that names this length? No buffer has an arena of no bytes.
+    fn fits(&self, len: usize) -> std::result::Result<(), BadState> {
+        if len > 0 && self.get().len() == len {
+            Ok(())
+        } else {
+            Err(BadState::Arena)
+        }
+    }
 }
 
 /// The sending side of a stream.
@@ -358,12 +402,48 @@ impl SendBuf<'static> {
     pub fn new(max_data: u64, arena_len: usize) -> Result<SendBuf<'static>> {
         SendBuf::over(max_data, Arena::own(arena_len))
     }
+
+    /// The buffer that had this state and these bytes in its arena, with an arena of its own. Refuses numbers that
+    /// contradict each other, and an arena of another length.
+    ///
+    /// ```
+    /// use valemkhor::{SendBuf, SendBufState};
+    ///
+    /// let mut send = SendBuf::new(1 << 20, 4096)?;
+    /// send.write(b"trip at 253 V", false)?;
+    /// send.write(b"", true)?; // a write of no bytes closes the stream
+    ///
+    /// // Before a restart: both of these go into a file.
+    /// let (state, arena) = (send.state().to_bytes(), send.arena().to_vec());
+    ///
+    /// // After it.
+    /// let state = SendBufState::from_bytes(&state)?;
+    /// let mut send = SendBuf::from_state(&state, arena)?;
+    /// let mut frame = [0; 1200];
+    /// let (n, fin) = send.emit(&mut frame)?;
+    /// assert_eq!((&frame[..n], fin), (&b"trip at 253 V"[..], true));
+    /// # Ok::<(), Box<dyn std::error::Error>>(())
+    /// ```
+    pub fn from_state(state: &SendBufState, arena: impl Into<Box<[u8]>>) -> std::result::Result<SendBuf<'static>, BadState> {
+        SendBuf::again(state, Arena::Own(arena.into()))
+    }
 }
 
 impl<'a> SendBuf<'a> {
     /// A buffer over an arena that the caller lends for as long as the buffer lives.
     pub fn with_arena(max_data: u64, arena: &'a mut [u8]) -> Result<SendBuf<'a>> {
         SendBuf::over(max_data, Arena::Lent(arena))
+    }
+
+    /// As [`from_state`](SendBuf::from_state), over an arena that the caller lends, with the saved bytes in it.
+    pub fn from_state_with_arena(state: &SendBufState, arena: &'a mut [u8]) -> std::result::Result<SendBuf<'a>, BadState> {
+        SendBuf::again(state, Arena::Lent(arena))
+    }
+
+    fn again(state: &SendBufState, arena: Arena<'a>) -> std::result::Result<SendBuf<'a>, BadState> {
+        good(raw::send_buf_is_good(*state))?;
+        arena.fits(state.arena_len)?;
+        Ok(SendBuf { state: *state, arena })
     }
 
     fn over(max_data: u64, arena: Arena<'a>) -> Result<SendBuf<'a>> {
@@ -491,7 +571,7 @@ impl<'a> SendBuf<'a> {
         raw::send_buf_buffered_bytes(self.state)
     }
 
-    /// The numbers that the buffer holds.
+    /// The numbers that the buffer holds: what `from_state` takes.
     pub fn state(&self) -> &SendBufState {
         &self.state
     }
@@ -514,12 +594,45 @@ impl RecvBuf<'static> {
     pub fn new(max_data: u64, max_window: u64, arena_len: usize) -> Result<RecvBuf<'static>> {
         RecvBuf::over(max_data, max_window, Arena::own(arena_len))
     }
+
+    /// The buffer that had this state and these bytes in its arena, with an arena of its own. Refuses numbers that
+    /// contradict each other, and an arena of another length.
+    ///
+    /// ```
+    /// use valemkhor::{RecvBuf, RecvBufState};
+    ///
+    /// let mut recv = RecvBuf::new(1 << 20, 1 << 20, 4096)?;
+    /// recv.write(5, b"at 253 V", true)?; // the end came first
+    ///
+    /// let (state, arena) = (recv.state().to_bytes(), recv.arena().to_vec());
+    ///
+    /// let mut recv = RecvBuf::from_state(&RecvBufState::from_bytes(&state)?, arena)?;
+    /// recv.write(0, b"trip ", false)?;
+    /// let mut settings = [0; 64];
+    /// let (n, fin) = recv.emit(&mut settings)?;
+    /// assert_eq!((&settings[..n], fin), (&b"trip at 253 V"[..], true));
+    /// # Ok::<(), Box<dyn std::error::Error>>(())
+    /// ```
+    pub fn from_state(state: &RecvBufState, arena: impl Into<Box<[u8]>>) -> std::result::Result<RecvBuf<'static>, BadState> {
+        RecvBuf::again(state, Arena::Own(arena.into()))
+    }
 }
 
 impl<'a> RecvBuf<'a> {
     /// A buffer over an arena that the caller lends for as long as the buffer lives.
     pub fn with_arena(max_data: u64, max_window: u64, arena: &'a mut [u8]) -> Result<RecvBuf<'a>> {
         RecvBuf::over(max_data, max_window, Arena::Lent(arena))
+    }
+
+    /// As [`from_state`](RecvBuf::from_state), over an arena that the caller lends, with the saved bytes in it.
+    pub fn from_state_with_arena(state: &RecvBufState, arena: &'a mut [u8]) -> std::result::Result<RecvBuf<'a>, BadState> {
+        RecvBuf::again(state, Arena::Lent(arena))
+    }
+
+    fn again(state: &RecvBufState, arena: Arena<'a>) -> std::result::Result<RecvBuf<'a>, BadState> {
+        good(raw::recv_buf_is_good(*state))?;
+        arena.fits(state.arena_len)?;
+        Ok(RecvBuf { state: *state, arena })
     }
 
     fn over(max_data: u64, max_window: u64, arena: Arena<'a>) -> Result<RecvBuf<'a>> {
@@ -625,7 +738,7 @@ impl<'a> RecvBuf<'a> {
         self.state = raw::recv_buf_set_flow_control(self.state, flow.0);
     }
 
-    /// The numbers that the buffer holds.
+    /// The numbers that the buffer holds: what `from_state` takes.
     pub fn state(&self) -> &RecvBufState {
         &self.state
     }

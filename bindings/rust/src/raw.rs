@@ -1,9 +1,11 @@
 //! The static library's functions and states, and the only `unsafe` of this crate.
 //!
-//! Why each call is sound. The library's functions ask one thing of a caller: that a state came from creation or a call. The
-//! states below have no public constructor outside this crate and this crate never changes a field, so a state that reaches a
-//! call is one that the library gave. A slice goes over as its pointer and length, is valid for the whole call, and the library
-//! keeps no pointer to it. Sizes and offsets of every struct are held to the library's by the test `layout`.
+//! Why each call is sound. The library's functions ask one thing of a caller: that a state came from creation or a call, or that
+//! `is_good` accepted it, which is the same to them (docs/RULES.md, 9). Outside this file a state comes out of a call, or goes
+//! through a `from_state`, which asks `is_good`, before it reaches another; and this crate never changes a field. The `is_good`
+//! functions themselves ask nothing of a state. They look at a flag as a byte, which a `bool` is. A slice goes over as its
+//! pointer and length, is valid for the whole call, and the library keeps no pointer to it. Sizes and offsets of every struct are
+//! held to the library's by the test `layout`.
 
 /// One chunk: stream offset, length, consumed part.
 #[repr(C)]
@@ -36,7 +38,7 @@ impl Number {
     }
 }
 
-/// Document 01's number, 0 for a success, and the values that go with it.
+/// The number of a refusal (docs/RULES.md, 2.1), 0 for a success, and the values that go with it.
 #[repr(C)]
 #[derive(Clone, Copy, Debug, PartialEq, Eq)]
 pub struct Answer {
@@ -150,6 +152,7 @@ calls! {
     vk_range_buf_is_empty as range_buf_is_empty(buf: RangeBufState) -> bool;
     vk_range_buf_consume as range_buf_consume(buf: RangeBufState, count: u64) -> Out<RangeBufState>;
     vk_range_buf_split_off as range_buf_split_off(buf: RangeBufState, at: u64) -> SplitOut;
+    vk_range_buf_is_good as range_buf_is_good(buf: RangeBufState) -> bool;
 
     vk_flow_control_new as flow_control_new(max_data: u64, window: u64, max_window: u64) -> Out<FlowControlState>;
     vk_flow_control_window as flow_control_window(flow: FlowControlState) -> u64;
@@ -161,6 +164,7 @@ calls! {
     vk_flow_control_update_max_data as flow_control_update_max_data(flow: FlowControlState, now: u64) -> FlowControlState;
     vk_flow_control_autotune_window as flow_control_autotune_window(flow: FlowControlState, now: u64, rtt: u64) -> FlowControlState;
     vk_flow_control_ensure_window_lower_bound as flow_control_ensure_window_lower_bound(flow: FlowControlState, min_window: u64) -> Out<FlowControlState>;
+    vk_flow_control_is_good as flow_control_is_good(flow: FlowControlState) -> bool;
 
     vk_range_set_new as range_set_new(capacity: usize) -> Out<RangeSetState>;
     vk_range_set_len as range_set_len(set: RangeSetState) -> usize;
@@ -173,6 +177,7 @@ calls! {
     vk_range_set_try_insert as range_set_try_insert(set: RangeSetState, start: u64, end: u64) -> Out<RangeSetState>;
     vk_range_set_push_item as range_set_push_item(set: RangeSetState, item: u64) -> Out<RangeSetState>;
     vk_range_set_remove_until as range_set_remove_until(set: RangeSetState, largest: u64) -> RangeSetState;
+    vk_range_set_is_good as range_set_is_good(set: RangeSetState) -> bool;
 
     vk_send_buf_update_max_data as send_buf_update_max_data(buf: SendBufState, max_data: u64) -> Out<SendBufState>;
     vk_send_buf_update_blocked_at as send_buf_update_blocked_at(buf: SendBufState, known: bool, value: u64) -> SendBufState;
@@ -195,6 +200,7 @@ calls! {
     vk_send_buf_cap as send_buf_cap(buf: SendBufState) -> Answer;
     vk_send_buf_bufs_count as send_buf_bufs_count(buf: SendBufState) -> usize;
     vk_send_buf_buffered_bytes as send_buf_buffered_bytes(buf: SendBufState) -> u64;
+    vk_send_buf_is_good as send_buf_is_good(buf: SendBufState) -> bool;
 
     vk_recv_buf_discard as recv_buf_discard(buf: RecvBufState, len: u64) -> Out<RecvBufState>;
     vk_recv_buf_reset as recv_buf_reset(buf: RecvBufState, code: u64, size: u64) -> Out<RecvBufState>;
@@ -213,6 +219,7 @@ calls! {
     vk_recv_buf_readable_len as recv_buf_readable_len(buf: RecvBufState, max_len: u64) -> u64;
     vk_recv_buf_flow_control as recv_buf_flow_control(buf: RecvBufState) -> FlowControlState;
     vk_recv_buf_set_flow_control as recv_buf_set_flow_control(buf: RecvBufState, flow: FlowControlState) -> RecvBufState;
+    vk_recv_buf_is_good as recv_buf_is_good(buf: RecvBufState) -> bool;
 }
 
 /// The calls that are lent bytes: a slice goes over as its pointer and its length.

@@ -1,4 +1,4 @@
-//! The worked examples of document 01, and what a stream's user relies on, through the safe types.
+//! The worked examples of docs/RULES.md, 10, and what a stream's user relies on, through the safe types.
 
 use valemkhor::FlowControl;
 use valemkhor::RangeBuf;
