@@ -41,7 +41,6 @@ static volatile uint64_t sink;
     X(vk_flow_control_new, f = vk_flow_control_new(a, b, len).flow) \
     X(vk_flow_control_window, sink = vk_flow_control_window(f)) \
     X(vk_flow_control_max_data, sink = vk_flow_control_max_data(f)) \
-    X(vk_flow_control_consumed, sink = vk_flow_control_consumed(f)) \
     X(vk_flow_control_add_consumed, f = vk_flow_control_add_consumed(f, a).flow) \
     X(vk_flow_control_should_update_max_data, sink = vk_flow_control_should_update_max_data(f)) \
     X(vk_flow_control_max_data_next, sink = vk_flow_control_max_data_next(f)) \
@@ -53,7 +52,6 @@ static volatile uint64_t sink;
     X(vk_range_set_len, sink = vk_range_set_len(t)) \
     X(vk_range_set_contains, sink = vk_range_set_contains(t, a)) \
     X(vk_range_set_get, sink = vk_range_set_get(t, i).range.start) \
-    X(vk_range_set_first, sink = vk_range_set_first(t).value) \
     X(vk_range_set_last, sink = vk_range_set_last(t).value) \
     X(vk_range_set_eq, sink = vk_range_set_eq(t, a, b)) \
     X(vk_range_set_insert, t = vk_range_set_insert(t, a, a + len).set) \

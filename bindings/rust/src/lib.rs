@@ -231,11 +231,6 @@ impl FlowControl {
         raw::flow_control_max_data(self.0)
     }
 
-    /// The bytes consumed.
-    pub fn consumed(&self) -> u64 {
-        raw::flow_control_consumed(self.0)
-    }
-
     /// Counts bytes consumed. Refuses 1 where the total would pass 2^62 - 1.
     pub fn add_consumed(&mut self, consumed: u64) -> Result<()> {
         step(raw::flow_control_add_consumed(self.0, consumed), &mut self.0).map(|_| ())
@@ -309,11 +304,6 @@ impl RangeSet {
             let out = raw::range_set_get(self.0, i);
             out.known.then_some(out.range.start..out.range.end)
         })
-    }
-
-    /// The start of the lowest range.
-    pub fn first(&self) -> Option<u64> {
-        raw::range_set_first(self.0).get()
     }
 
     /// The number before the end of the highest range.

@@ -157,7 +157,6 @@ calls! {
     vk_flow_control_new as flow_control_new(max_data: u64, window: u64, max_window: u64) -> Out<FlowControlState>;
     vk_flow_control_window as flow_control_window(flow: FlowControlState) -> u64;
     vk_flow_control_max_data as flow_control_max_data(flow: FlowControlState) -> u64;
-    vk_flow_control_consumed as flow_control_consumed(flow: FlowControlState) -> u64;
     vk_flow_control_add_consumed as flow_control_add_consumed(flow: FlowControlState, consumed: u64) -> Out<FlowControlState>;
     vk_flow_control_should_update_max_data as flow_control_should_update_max_data(flow: FlowControlState) -> bool;
     vk_flow_control_max_data_next as flow_control_max_data_next(flow: FlowControlState) -> u64;
@@ -170,7 +169,6 @@ calls! {
     vk_range_set_len as range_set_len(set: RangeSetState) -> usize;
     vk_range_set_contains as range_set_contains(set: RangeSetState, item: u64) -> bool;
     vk_range_set_get as range_set_get(set: RangeSetState, i: usize) -> RangeOut;
-    vk_range_set_first as range_set_first(set: RangeSetState) -> Number;
     vk_range_set_last as range_set_last(set: RangeSetState) -> Number;
     vk_range_set_eq as range_set_eq(set: RangeSetState, start: u64, end: u64) -> bool;
     vk_range_set_insert as range_set_insert(set: RangeSetState, start: u64, end: u64) -> Out<RangeSetState>;
