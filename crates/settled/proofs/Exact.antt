@@ -1,7 +1,6 @@
--- Each refusal is given exactly if docs/RULES.md, 2.1 says so, in the order of 2.2. Here is the law of a chain of refusals, for every kind of
--- answer; ExactLeaves, ExactSender and ExactReceiver state it for each call. Assumes nothing.
+-- Each refusal is given exactly if docs/RULES.md, 2.1 says so, in the order of 2.2. Here is the law of a chain of refusals; ExactKinds has it for
+-- every kind of answer, and ExactLeaves, ExactSender and ExactReceiver for each call. Assumes nothing.
 --
---   Test        a test that holds exactly if P, and fails exactly if Q
 --   Line        one line of a chain: a refusal with its test, or the code of a stop or a reset
 --   said        the answer of a chain: the first line that applies
 --   When        when a refusal is given: its line's condition, and of each line before it that it does not apply
@@ -11,108 +10,22 @@ use mathlib.Core.Path.{_≡_, refl, sym, ap, _∙_}
 use mathlib.Core.Logic.{_↔_, _≢_, inl, inr, Iff·trans, Iff·rfl, Iff·and}
 use mathlib.Core.Bool.{Bool, true, false, cond, not, _&&_, _||_}
 use mathlib.Core.List.{List, [], _∷_}
-use Prim.Native.Nat.{ℕ, _≤_, _<_}
+use Prim.Native.Nat.{ℕ}
 use native.Mathlib.Omega.{arith}
-use lib.Dec.{ltb, leb, eqb}
-use borrow.Author.Tests.{ltb-true, ltb-false, leb-true, leb-false, eqb-true, eqb-false, lt-ltb, le-ltb, le-leb, lt-leb, eq-eqb, ne-eqb, not-true, not-false}
+use lib.Dec.{eqb}
+use borrow.Author.Tests.{eqb-true, eqb-false, not-true}
 use Rattle.tables.proofs.Tables.{by-test}
-use Rattle.refusal.proofs.Answers.{known-is, known-not}
-use Rattle.tables.proofs.Tests.{either, clash, and-true, and-false, or-true, or-false}
-use Rattle.refusal.specs.Rules.{numberOf, codeOf, known, withCount, withBytes, withSizes}
+use Rattle.refusal.proofs.Answers.{known-not}
+use Rattle.tables.proofs.Tests.{either, clash, and-true, or-false}
+use Rattle.refusal.specs.Rules.{numberOf, codeOf, known}
 use Rattle.refusal.specs.declared.Refusal.{Refusal}
 use Rattle.refusal.specs.declared.Refusal.the-variants.{Offset, Stopped, FinalSize, FlowControl, NoRoom, TableFull, NeverSent, Done as NothingMore, Reset, BadSetup}
 use Rattle.refusal.specs.declared.Answer.{Answer}
 use Rattle.refusal.specs.declared.Answer.the-variants.{Done, Refused}
-use Rattle.refusal.specs.declared.CountAnswer.{CountAnswer}
-use Rattle.refusal.specs.declared.CountAnswer.the-variants.{Count, Refused as NoCount}
-use Rattle.refusal.specs.declared.EmitAnswer.{EmitAnswer}
-use Rattle.refusal.specs.declared.EmitAnswer.the-variants.{Emitted, Refused as NoBytes}
-use Rattle.refusal.specs.declared.SizesAnswer.{SizesAnswer}
-use Rattle.refusal.specs.declared.SizesAnswer.the-variants.{Sizes, Refused as NoSizes}
 use Rattle.refusal.specs.declared.OptionU64.{OptionU64}
 use Rattle.refusal.specs.declared.OptionU64.the-variants.{None, Some}
-use Rattle.range_buf.specs.declared.SplitAnswer.{SplitAnswer}
-use Rattle.range_buf.specs.declared.SplitAnswer.the-variants.{Right, Refused as NoSplit}
-use Rattle.settled.specs.Conditions.{_and_, _or_, OneOf}
-
--- ---- tests
-
-pub record Test (t : Bool) (P Q : Type 0) : Type 0 where
-  pub yes : (t ≡ true) ↔ P
-  pub no : (t ≡ false) ↔ Q
-
-pub less : (a b : ℕ) → Test (ltb a b) (a < b) (b ≤ a)
-less a b = record { yes = (ltb-true a b, lt-ltb a b); no = (ltb-false a b, le-ltb a b) }
-
-pub most : (a b : ℕ) → Test (leb a b) (a ≤ b) (b < a)
-most a b = record { yes = (leb-true a b, le-leb a b); no = (leb-false a b, lt-leb a b) }
-
-pub same : (a b : ℕ) → Test (eqb a b) (a ≡ b) (a ≢ b)
-same a b = record { yes = (eqb-true a b, eq-eqb a b); no = (eqb-false a b, ne-eqb a b) }
-
--- a flag, and a code that is known or not
-pub flag : (t : Bool) → Test t (t ≡ true) (t ≡ false)
-flag t = record { yes = (λ e. e, λ e. e); no = (λ e. e, λ e. e) }
-
-pub never : Test false ⊥ (Unit {0})
-never = record { yes = (λ e. clash (sym e), λ h. absurd h); no = (λ e. tt, λ h. refl) }
-
-pub always : Test true (Unit {0}) ⊥
-always = record { yes = (λ e. tt, λ h. refl); no = (λ e. clash e, λ h. absurd h) }
-
-module _ {t : Bool} {P Q : Type 0} (x : Test t P Q) where
-  pub negated : Test (not t) Q P
-  negated = record {
-    yes = (λ e. x .no .0 (not-true t e), λ h. ap not (x .no .1 h));
-    no = (λ e. x .yes .0 (not-false t e), λ h. ap not (x .yes .1 h));
-  }
-
-  module _ {u : Bool} {R S : Type 0} (y : Test u R S) where
-    pub both : Test (t && u) (P and R) (Q or S)
-    both = record {
-      yes = (λ e. let p = and-true t u e in (x .yes .0 (p .0), y .yes .0 (p .1)), λ h. rw (x .yes .1 (h .0), y .yes .1 (h .1)));
-      no = (λ e. either (and-false t u e) (λ p. inl (x .no .0 p)) (λ p. inr (y .no .0 p)), back);
-    }
-      where
-        last : (b : Bool) → (b && false) ≡ false
-        last true = refl
-        last false = refl
-
-        back : Q or S → (t && u) ≡ false
-        back (inl h) = rw (x .no .1 h)
-        back (inr h) = rw (y .no .1 h) (last t)
-
-    pub any : Test (t || u) (P or R) (Q and S)
-    any = record {
-      yes = (λ e. either (or-true t u e) (λ p. inl (x .yes .0 p)) (λ p. inr (y .yes .0 p)), back);
-      no = (λ e. let p = or-false t u e in (x .no .0 (p .0), y .no .0 (p .1)), λ h. rw (x .no .1 (h .0), y .no .1 (h .1)));
-    }
-      where
-        last : (b : Bool) → (b || true) ≡ true
-        last true = refl
-        last false = refl
-
-        back : P or R → (t || u) ≡ true
-        back (inl h) = rw (x .yes .1 h)
-        back (inr h) = rw (y .yes .1 h) (last t)
-
-  -- the same test in other words; and by one word
-  pub told-as : {P′ Q′ : Type 0} → P ↔ P′ → Q ↔ Q′ → Test t P′ Q′
-  told-as e f = record { yes = Iff·trans (x .yes) e; no = Iff·trans (x .no) f }
-
-  pub named : {P′ : Type 0} → P ↔ P′ → Test t P′ (¬ P′)
-  named {P′} e = record {
-    yes = Iff·trans (x .yes) e;
-    no = (λ f h. clash (sym (x .yes .1 (e .1 h)) ∙ f), λ h. off h t refl);
-  }
-    where
-      off : ¬ P′ → (b : Bool) → t ≡ b → b ≡ false
-      off h true q = absurd (h (e .0 (x .yes .0 q)))
-      off h false q = refl
-
--- a number is known, or it is not
-pub is-known : (f : OptionU64) → Test (known f) ((n : ℕ) × (f ≡ Some n)) (f ≡ None)
-is-known f = record { yes = (known-is f, λ h. ap known (h .1)); no = (known-not f, λ h. ap known h) }
+use Rattle.settled.specs.Conditions.{_and_, OneOf}
+use Rattle.settled.proofs.ExactTests.{Test}
 
 -- ---- which refusal
 
@@ -165,10 +78,10 @@ coded BadSetup = refl
 both-coded : (x y : Refusal) → numberOf x ≡ numberOf y → known (codeOf x) ≡ known (codeOf y)
 both-coded x y n = coded x ∙ ap (λ (m : ℕ). eqb m 2 || eqb m 9) n ∙ sym (coded y)
 
-refused-inj : {x y : Refusal} → Refused x ≡ Refused y → x ≡ y
+pub refused-inj : {x y : Refusal} → Refused x ≡ Refused y → x ≡ y
 refused-inj e = cc
 
-not-done : {A : Type 0} {x : Refusal} → Done ≡ Refused x → A
+pub not-done : {A : Type 0} {x : Refusal} → Done ≡ Refused x → A
 not-done e = let z : _≡_ {A = ℕ} 0 1 = cc in absurd (omega arith)
 
 -- ---- a chain of refusals
@@ -289,87 +202,3 @@ exactly (l ∷ ls) x f = go (eqb (numberOf x) (number l)) refl (exactly ls x (q 
     go true r h = let n = eqb-true (numberOf x) (number l) r in
         hit l x (said ls) (p .0) n (λ e. unlisted (number l) ls (not-true (listed (number l) ls) (q .0)) (rw n at (only ls x e)))
     go false r h = Iff·trans (miss l x (said ls) (eqb-false (numberOf x) (number l) r)) (Iff·and Iff·rfl h)
-
--- ---- the kinds of answer
-
--- of a kind: its refusals, and the plain answer in it
-pub record Kind (A : Type 0) : Type 0 where
-  pub refused : Refusal → A
-  pub plain-of : A → Answer
-  pub into : (x : Refusal) → plain-of (refused x) ≡ Refused x
-  pub back : (a : A) (x : Refusal) → plain-of a ≡ Refused x → a ≡ refused x
-
-abbrev pub ofCount : CountAnswer → Answer
-ofCount (Count n) = Done
-ofCount (NoCount why) = Refused why
-
-abbrev pub ofEmit : EmitAnswer → Answer
-ofEmit (Emitted n fin) = Done
-ofEmit (NoBytes why) = Refused why
-
-abbrev pub ofSizes : SizesAnswer → Answer
-ofSizes (Sizes a b) = Done
-ofSizes (NoSizes why) = Refused why
-
-abbrev pub ofSplit : SplitAnswer → Answer
-ofSplit (Right b) = Done
-ofSplit (NoSplit why) = Refused why
-
-pub in-count : (x : Answer) (n : ℕ) → ofCount (withCount x n) ≡ x
-in-count Done n = refl
-in-count (Refused why) n = refl
-
-pub in-bytes : (x : Answer) (n : ℕ) (fin : Bool) → ofEmit (withBytes x n fin) ≡ x
-in-bytes Done n fin = refl
-in-bytes (Refused why) n fin = refl
-
-pub in-sizes : (x : Answer) (a b : ℕ) → ofSizes (withSizes x a b) ≡ x
-in-sizes Done a b = refl
-in-sizes (Refused why) a b = refl
-
-pub count-back : (a : CountAnswer) (x : Refusal) → ofCount a ≡ Refused x → a ≡ NoCount x
-count-back (Count n) x e = not-done e
-count-back (NoCount why) x e = ap NoCount (refused-inj e)
-
-pub emit-back : (a : EmitAnswer) (x : Refusal) → ofEmit a ≡ Refused x → a ≡ NoBytes x
-emit-back (Emitted n fin) x e = not-done e
-emit-back (NoBytes why) x e = ap NoBytes (refused-inj e)
-
-pub sizes-back : (a : SizesAnswer) (x : Refusal) → ofSizes a ≡ Refused x → a ≡ NoSizes x
-sizes-back (Sizes m n) x e = not-done e
-sizes-back (NoSizes why) x e = ap NoSizes (refused-inj e)
-
-pub split-back : (a : SplitAnswer) (x : Refusal) → ofSplit a ≡ Refused x → a ≡ NoSplit x
-split-back (Right b) x e = not-done e
-split-back (NoSplit why) x e = ap NoSplit (refused-inj e)
-
-abbrev pub answers : Kind Answer
-answers = record { refused = Refused; plain-of = λ a. a; into = λ x. refl; back = λ a x e. e }
-
-abbrev pub counts : Kind CountAnswer
-counts = record { refused = NoCount; plain-of = ofCount; into = λ x. refl; back = count-back }
-
-abbrev pub emits : Kind EmitAnswer
-emits = record { refused = NoBytes; plain-of = ofEmit; into = λ x. refl; back = emit-back }
-
-abbrev pub sizes : Kind SizesAnswer
-sizes = record { refused = NoSizes; plain-of = ofSizes; into = λ x. refl; back = sizes-back }
-
-abbrev pub splits : Kind SplitAnswer
-splits = record { refused = NoSplit; plain-of = ofSplit; into = λ x. refl; back = split-back }
-
--- a call's answer, of any kind, keeps to the lines of a chain: it gives each refusal exactly when they say, and no other
-pub record Keeps {A : Type 0} (k : Kind A) (a : A) (ls : List Line) : Type 0 where
-  pub exact : (x : Refusal) → (a ≡ k .refused x) ↔ When x ls
-  pub others : (x : Refusal) → a ≡ k .refused x → OneOf (numberOf x) (numbers ls)
-
-pub keeps : {A : Type 0} (k : Kind A) (a : A) (ls : List Line) → k .plain-of a ≡ said ls → fit ls ≡ true → Keeps k a ls
-keeps k a ls e f = record {
-  exact = λ x. (λ h. exactly ls x f .0 (sym e ∙ ap (k .plain-of) h ∙ k .into x), λ h. k .back a x (e ∙ exactly ls x f .1 h));
-  others = λ x h. only ls x (sym e ∙ ap (k .plain-of) h ∙ k .into x);
-}
-
--- what is read off the one or the other of two outcomes
-pub of-either : {A B : Type 0} (f : A → B) (t : Bool) (x y : A) → f (cond t x y) ≡ cond t (f x) (f y)
-of-either f true x y = refl
-of-either f false x y = refl

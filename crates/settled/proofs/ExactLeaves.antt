@@ -5,12 +5,13 @@ use mathlib.Core.Path.{_≡_, refl, sym, ap, _∙_}
 use mathlib.Core.Logic.{_↔_, inl, inr}
 use mathlib.Core.Bool.{Bool, true, false, cond, not, _&&_}
 use mathlib.Core.List.{List, [], _∷_}
-use Prim.Native.Nat.{ℕ, _+_, _-_, _≤_, _<_}
+use Prim.Native.Nat.{ℕ, suc, _+_, _-_, _≤_, _<_}
 use native.Mathlib.Omega.{arith}
 use lib.Dec.{ltb, leb, eqb}
-use lib.ListN.{length}
-use borrow.Author.Tests.{le-ltb, eqb-true, ne-eqb}
+use lib.ListN.{length, length-append}
+use borrow.Author.Tests.{eqb-true, lt-ltb, le-ltb, le-leb, lt-leb, eq-eqb, ne-eqb}
 use Rattle.tables.specs.Lists.{filterBy}
+use Rattle.tables.proofs.Tables.{cases}
 use Rattle.tables.proofs.Tests.{either, clash}
 use Rattle.refusal.specs.Rules.{M, numberOf}
 use Rattle.refusal.specs.declared.Refusal.{Refusal}
@@ -27,10 +28,13 @@ use Rattle.flowcontrol.specs.Rules as window
 use Rattle.ranges.specs.declared.Range.{Range}
 use Rattle.ranges.specs.declared.RangeSet.{RangeSet}
 use Rattle.ranges.specs.declared.Outcome.{Outcome as SetOutcome}
-use Rattle.ranges.specs.State.{ranges, upto}
+use Rattle.ranges.specs.State.{Good, Sorted, ranges, upto}
 use Rattle.ranges.specs.Rules as set
+use Rattle.ranges.proofs.Good.{ranges-length}
 use Rattle.settled.specs.Conditions.{_and_, _or_, OneOf, Apart, Meets}
-use Rattle.settled.proofs.Exact.{Test, less, most, same, always, negated, both, any, line, answers, splits, ofSplit, Keeps, keeps, of-either}
+use Rattle.settled.proofs.ExactTests.{Test, less, most, same, always, negated, both, any}
+use Rattle.settled.proofs.Exact.{line}
+use Rattle.settled.proofs.ExactKinds.{answers, splits, ofSplit, Keeps, keeps, of-either}
 
 -- ---- chunk (RULES 3)
 
@@ -143,6 +147,32 @@ pub needs-room : (cap : ℕ) (x : Range) (l : List Range)
     → Test (set.needsRoom cap x l) (Apart x l and (cap ≤ length l)) (Meets x l or (length l < cap))
 needs-room cap x l = both (apart x l) (most cap (length l))
 
+-- in a set that is in order and within its capacity, that is so exactly if the set with x in it would pass the capacity
+module _ (cap : ℕ) (x : Range) (ok : x .start ≤ x .end) where
+  parts : (lo : ℕ) (l : List Range) → Sorted lo l
+      → length (filterBy (set.endsBelow x) l) + length (filterBy (set.joins x) l) + length (filterBy (set.startsAbove x) l) ≡ length l
+  parts lo [] s = refl
+  parts lo (r ∷ rs) s = let ih = parts (suc (r .end)) rs (s .2) in
+      cases (r .end) (x .start)
+      (λ h. simp (lt-ltb (r .end) (x .start) h, le-leb (r .start) (x .end) (omega arith), lt-leb (x .start) (r .end) h, le-ltb (x .end) (r .start) (omega arith))
+      (omega arith))
+      (λ h. cases (x .end) (r .start)
+      (λ k. simp (le-ltb (r .end) (x .start) h, lt-leb (r .start) (x .end) k, lt-ltb (x .end) (r .start) k) (omega arith))
+      (λ k. simp (le-ltb (r .end) (x .start) h, le-leb (r .start) (x .end) k, le-leb (x .start) (r .end) h, le-ltb (x .end) (r .start) k) (omega arith)))
+
+  pub would-pass : (l : List Range) → Sorted 0 l → length l ≤ cap → (Apart x l and (cap ≤ length l)) ↔ (cap < length (set.placed x l))
+  would-pass l s few = (
+    λ h. omega (arith, all, eqb-true (length (filterBy (set.joins x) l)) 0 (apart x l .yes .1 (h .0)), h .1),
+    λ h. (apart x l .yes .0 (eq-eqb (length (filterBy (set.joins x) l)) 0 (omega (arith, all))), omega (arith, all)),
+  )
+    where
+      all : length (set.placed x l) + length (filterBy (set.joins x) l) ≡ length l + 1
+      all = omega (
+        arith,
+        parts 0 l s,
+        length-append (filterBy (set.endsBelow x) l) (set.hull x (filterBy (set.joins x) l) ∷ filterBy (set.startsAbove x) l),
+      )
+
 module _ (s : RangeSet) (x : Range) where
   insert : Keeps answers (set.inserted s x .answer) (line Offset (less (x .end) (x .start)) ∷ [])
   insert = keeps answers _ _ (of-either (λ (o : SetOutcome). o .answer) (ltb (x .end) (x .start)) _ _) refl
@@ -167,6 +197,17 @@ module _ (s : RangeSet) (x : Range) where
   pub try-insert-table-full : (set.tried s x .answer ≡ Refused TableFull)
       ↔ ((x .start ≤ x .end) and Apart x (ranges s) and (s .capacity ≤ length (ranges s)))
   try-insert-table-full = try-insert .exact TableFull
+
+  -- in other words, of a set that came from creation or a call: exactly if a range would be lost
+  pub try-insert-lost : Good s → (set.tried s x .answer ≡ Refused TableFull)
+      ↔ ((x .start ≤ x .end) and (s .capacity < length (set.placed x (ranges s))))
+  try-insert-lost g = (
+    λ e. let h = try-insert-table-full .0 e in (h .0, would-pass (s .capacity) x (h .0) (ranges s) (g .order) few .0 (h .1)),
+    λ h. try-insert-table-full .1 (h .0, would-pass (s .capacity) x (h .0) (ranges s) (g .order) few .1 (h .1)),
+  )
+    where
+      few : length (ranges s) ≤ s .capacity
+      few = omega (arith, ranges-length s g, g .room)
 
   pub try-insert-only : (y : Refusal) → set.tried s x .answer ≡ Refused y → OneOf (numberOf y) (1 ∷ 6 ∷ [])
   try-insert-only = try-insert .others

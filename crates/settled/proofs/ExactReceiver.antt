@@ -3,13 +3,16 @@
 -- none but those numbered there, tested in that order. Assumes nothing.
 use mathlib.Core.Path.{_≡_, refl, sym, ap, _∙_}
 use mathlib.Core.Logic.{_↔_, _≢_, inl, inr, Iff·rfl}
-use mathlib.Core.Bool.{Bool, true, false, cond, not}
+use mathlib.Core.Bool.{Bool, true, false, cond, not, _&&_, and-false}
 use mathlib.Core.List.{List, [], _∷_}
 use Prim.Native.Nat.{ℕ, _+_, _-_, _≤_, _<_}
 use native.Mathlib.Omega.{arith}
+use lib.Dec.{eqb}
 use lib.ListN.{length}
-use borrow.Author.Tests.{le-ltb}
-use Rattle.refusal.specs.Rules.{M, numberOf, isOther}
+use borrow.Author.Tests.{le-ltb, not-true}
+use Rattle.tables.proofs.Tables.{by-test}
+use Rattle.tables.proofs.Tests.{and-true}
+use Rattle.refusal.specs.Rules.{M, numberOf, known, isOther}
 use Rattle.refusal.specs.declared.Refusal.{Refusal}
 use Rattle.refusal.specs.declared.Refusal.the-variants.{Offset, FinalSize, FlowControl, NoRoom, TableFull, Done as NothingReady, Reset, BadSetup}
 use Rattle.refusal.specs.declared.Answer.{Answer}
@@ -25,9 +28,11 @@ use Rattle.recv_buf.specs.declared.Outcome.{Outcome}
 use Rattle.recv_buf.specs.declared.CountOutcome.{CountOutcome}
 use Rattle.recv_buf.specs.declared.EmitOutcome.{EmitOutcome}
 use Rattle.recv_buf.specs.State.{Recv}
-use Rattle.recv_buf.specs.Rules.{otherArena, badNumbers, created, passesFinal, noRoom, chunksAfter, writeJudged, written, isReady, takes, unlessReset, takeJudged, discarded, emitted, badSize, resetJudged, resets, shuts}
+use Rattle.recv_buf.specs.Rules.{otherArena, badNumbers, created, passesFinal, noRoom, chunksAfter, noEntry, writeJudged, wrote, written, isReady, takes, unlessReset, takeJudged, discarded, emitted, badSize, resetJudged, resets, shuts}
 use Rattle.settled.specs.Conditions.{_and_, _or_, OneOf, OtherArena, SameArena, Contradicts, above, elsewhere, short, NoRoomFor, BadSize, differs, below, Ready, NotReady}
-use Rattle.settled.proofs.Exact.{Test, less, same, flag, never, negated, both, any, named, is-known, Line, line, wasReset, unless, said, answers, counts, emits, sizes, ofCount, ofEmit, in-bytes, in-sizes, Keeps, keeps, of-either}
+use Rattle.settled.proofs.ExactTests.{Test, less, same, flag, never, negated, both, any, told-as, named, is-known}
+use Rattle.settled.proofs.Exact.{Line, line, wasReset, unless, said}
+use Rattle.settled.proofs.ExactKinds.{answers, counts, emits, sizes, ofCount, ofEmit, in-bytes, in-sizes, Keeps, keeps, of-either}
 
 -- ---- the tests
 
@@ -44,6 +49,18 @@ is-ready (c ∷ cs) off = same (start c) off
 
 no-room : (r : Recv) (s n : ℕ) → Test (noRoom r s n) (NoRoomFor r s n) (¬ NoRoomFor r s n)
 no-room r s n = named (both (negated (flag (r .drain))) (both (less 0 n) (less (r .room) (s + n - r .off)))) Iff·rfl
+
+-- the chunks that would stand: not asked after shutdown
+no-entry : (r : Recv) (s n : ℕ) (fin : Bool)
+    → Test (noEntry r s n fin) ((r .drain ≡ false) and (64 < length (wrote r s n fin .chunks))) ((r .drain ≡ true) or (length (chunksAfter r s n fin) ≤ 64))
+unfolding wrote
+no-entry r s n fin = told-as (both (negated (flag (r .drain))) (less 64 (length (chunksAfter r s n fin))))
+    (λ h. (h .0, rw (stand (h .0)) (h .1)), λ h. (h .0, rw (← stand (h .0)) (h .1))) Iff·rfl
+  where
+    stand : r .drain ≡ false → length (wrote r s n fin .chunks) ≡ length (chunksAfter r s n fin)
+    stand q = by-test (eqb n 0 && not fin)
+        (λ e. let p = and-true (eqb n 0) (not fin) e in rw (p .0, not-true fin (p .1), and-false (not (known (r .fin)))))
+        (λ e. rw (e, q))
 
 module _ (r : Recv) (e : ℕ) (fin : Bool) where
   contradicts : Test (passesFinal (r .fin) (r .len) e fin) (Contradicts r e fin) (¬ Contradicts r e fin)
@@ -110,7 +127,7 @@ module _ (r : Recv) (a s n : ℕ) (fin : Bool) where
   write : Keeps answers (written r a s n fin .answer)
       (line BadSetup (other-arena r a) ∷ line Offset (less M (s + n)) ∷ line FlowControl (less (r .flow .«max_data») (s + n))
       ∷ line FinalSize (contradicts r (s + n) fin) ∷ line NoRoom (no-room r s n)
-      ∷ line TableFull (both (negated (flag (r .drain))) (less 64 (length (chunksAfter r s n fin)))) ∷ [])
+      ∷ line TableFull (no-entry r s n fin) ∷ [])
   unfolding written writeJudged
   write = keeps answers _ _ refl refl
 
@@ -140,7 +157,7 @@ module _ (r : Recv) (a s n : ℕ) (fin : Bool) where
   -- TableFull exactly if more than 64 chunks would stand after it; not after shutdown
   pub write-table-full : (written r a s n fin .answer ≡ Refused TableFull)
       ↔ (SameArena (r .room) a and (s + n ≤ M) and (s + n ≤ r .flow .«max_data») and (¬ Contradicts r (s + n) fin) and (¬ NoRoomFor r s n)
-      and (r .drain ≡ false) and (64 < length (chunksAfter r s n fin)))
+      and (r .drain ≡ false) and (64 < length (wrote r s n fin .chunks)))
   write-table-full = write .exact TableFull
 
   pub write-only : (x : Refusal) → written r a s n fin .answer ≡ Refused x → OneOf (numberOf x) (10 ∷ 1 ∷ 4 ∷ 3 ∷ 5 ∷ 6 ∷ [])
@@ -184,14 +201,16 @@ module _ (r : Recv) (n : ℕ) where
     pub emit-bad-setup : (emitted r a n .answer ≡ NoBytes BadSetup) ↔ OtherArena (r .room) a
     emit-bad-setup = emit .exact BadSetup
 
-    -- the others as `discard` gives them
+    -- with the right arena, Done exactly if nothing is ready
     pub emit-done : (emitted r a n .answer ≡ NoBytes NothingReady) ↔ (SameArena (r .room) a and NotReady (r .chunks) (r .off))
     emit-done = emit .exact NothingReady
 
+    -- Reset exactly if it is ready and a reset was accepted, and with the reset's code
     pub emit-reset : (code : ℕ) → (emitted r a n .answer ≡ NoBytes (Reset code))
         ↔ (SameArena (r .room) a and Ready (r .chunks) (r .off) and (r .error ≡ Some code))
     emit-reset code = emit .exact (Reset code)
 
+    -- Offset exactly if the consumed total, with what this call would hand out, would pass M
     pub emit-offset : (emitted r a n .answer ≡ NoBytes Offset)
         ↔ (SameArena (r .room) a and Ready (r .chunks) (r .off) and (r .error ≡ None) and (M < r .flow .consumed + takes r n))
     emit-offset = emit .exact Offset

@@ -1,14 +1,15 @@
 -- Each refusal of a send buffer is given exactly if docs/RULES.md says so (2.1 and 4), in the order of 2.2, for every state and every number.
 -- A theorem CALL-REFUSAL says when a call gives a refusal: those tested before it let pass, and its own condition holds. CALL-only: the call gives
 -- none but those numbered there, tested in that order. Assumes nothing.
-use mathlib.Core.Path.{_≡_, refl, sym, ap, _∙_}
-use mathlib.Core.Logic.{_↔_, inl, inr}
-use mathlib.Core.Bool.{Bool, true, false, cond, not}
-use mathlib.Core.List.{List, [], _∷_, _++_}
+use mathlib.Core.Path.{_≡_, refl, ap, _∙_}
+use mathlib.Core.Logic.{_↔_, inl, inr, Iff·trans, Iff·rfl, Iff·and}
+use mathlib.Core.Bool.{Bool, true, false, cond, not, _&&_}
+use mathlib.Core.List.{List, [], _∷_}
 use Prim.Native.Nat.{ℕ, _+_, _-_, _≤_, _<_}
 use native.Mathlib.Omega.{arith}
 use lib.Dec.{ltb}
 use lib.ListN.{length, length-append}
+use borrow.Author.Tests.{not-true}
 use Rattle.refusal.specs.Rules.{M, numberOf, known}
 use Rattle.refusal.specs.declared.Refusal.{Refusal}
 use Rattle.refusal.specs.declared.Refusal.the-variants.{Offset, Stopped, FinalSize, NoRoom, TableFull, NeverSent, Done as NothingMore, BadSetup}
@@ -23,12 +24,14 @@ use Rattle.ranges.specs.State.{upto}
 use Rattle.send_buf.specs.declared.Outcome.{Outcome}
 use Rattle.send_buf.specs.declared.EmitOutcome.{EmitOutcome}
 use Rattle.send_buf.specs.declared.SizesOutcome.{SizesOutcome}
-use Rattle.send_buf.specs.State.{Send, base}
-use Rattle.send_buf.specs.Rules.{otherArena, ackOff, badNumbers, created, marked, accepted, unlessStopped, passesFinal, pieces, cut, writeJudged, wrote, written, emitted, ackJudged, acks, ackDrops, back, settled, lossJudged, retransmits, resets, stops, shuts, raised, cap}
+use Rattle.send_buf.specs.State.{Send, GoodSend, base}
+use Rattle.send_buf.specs.Rules.{otherArena, ackOff, badNumbers, created, marked, accepted, unlessStopped, passesFinal, pieces, cut, writeJudged, wrote, written, emitted, ackJudged, ackedMore, acks, ackDrops, back, settled, lossJudged, lost, retransmits, resets, stops, shuts, raised, cap}
 use Rattle.send_buf.proofs.Chunks.{length-cut}
 use Rattle.settled.specs.Conditions.{_and_, _or_, OneOf, OtherArena, SameArena, Apart, Unmarked, PastFinal, past, unmarked, Moves}
-use Rattle.settled.proofs.Exact.{Test, less, most, same, flag, never, negated, both, any, told-as, named, is-known, Line, line, stopped, unless, answers, counts, emits, sizes, ofEmit, ofSizes, in-count, Keeps, keeps, of-either}
-use Rattle.settled.proofs.ExactLeaves.{needs-room}
+use Rattle.settled.proofs.ExactTests.{Test, less, most, same, flag, never, negated, both, any, named, is-known}
+use Rattle.settled.proofs.Exact.{Line, line, stopped, unless}
+use Rattle.settled.proofs.ExactKinds.{answers, counts, emits, sizes, ofEmit, ofSizes, in-count, Keeps, keeps, of-either}
+use Rattle.settled.proofs.ExactLeaves.{needs-room, would-pass}
 
 -- ---- the tests
 
@@ -144,6 +147,10 @@ module _ (s : Send) (a n : ℕ) where
   abbrev ack-lines : List Line
   ack-lines = line NeverSent (less (s .emitted) (a + n)) ∷ line TableFull (needs-room 64 (upto a (a + n)) (s .acked)) ∷ []
 
+  needs-65th : GoodSend s → (Apart (upto a (a + n)) (s .acked) and (64 ≤ length (s .acked))) ↔ (64 < length (ackedMore s a n .acked))
+  unfolding ackedMore
+  needs-65th g = would-pass 64 (upto a (a + n)) (omega arith) (s .acked) (g .acked-order) (g .acked-few)
+
   ack : Keeps answers (acks s a n .answer) ack-lines
   unfolding acks ackJudged
   ack = keeps answers _ _ refl refl
@@ -157,6 +164,10 @@ module _ (s : Send) (a n : ℕ) where
       ↔ ((a + n ≤ s .emitted) and Apart (upto a (a + n)) (s .acked) and (64 ≤ length (s .acked)))
   ack-table-full = ack .exact TableFull
 
+  -- in other words, of a buffer that came from creation or a call: exactly if the acked set would need a 65th range
+  pub ack-65th : GoodSend s → (acks s a n .answer ≡ Refused TableFull) ↔ ((a + n ≤ s .emitted) and (64 < length (ackedMore s a n .acked)))
+  ack-65th g = Iff·trans ack-table-full (Iff·and Iff·rfl (needs-65th g))
+
   pub ack-only : (x : Refusal) → acks s a n .answer ≡ Refused x → OneOf (numberOf x) (7 ∷ 6 ∷ [])
   ack-only = ack .others
 
@@ -164,13 +175,18 @@ module _ (s : Send) (a n : ℕ) where
   unfolding ackDrops ackJudged
   drop = keeps counts _ _ (in-count _ _) refl
 
-  -- `ack_and_drop` as `ack`
+  -- `ack_and_drop` gives NeverSent exactly where `ack` does
   pub drop-never-sent : (ackDrops s a n .answer ≡ NoCount NeverSent) ↔ (s .emitted < a + n)
   drop-never-sent = drop .exact NeverSent
 
+  -- and TableFull exactly where `ack` does
   pub drop-table-full : (ackDrops s a n .answer ≡ NoCount TableFull)
       ↔ ((a + n ≤ s .emitted) and Apart (upto a (a + n)) (s .acked) and (64 ≤ length (s .acked)))
   drop-table-full = drop .exact TableFull
+
+  -- in other words, as for `ack`
+  pub drop-65th : GoodSend s → (ackDrops s a n .answer ≡ NoCount TableFull) ↔ ((a + n ≤ s .emitted) and (64 < length (ackedMore s a n .acked)))
+  drop-65th g = Iff·trans drop-table-full (Iff·and Iff·rfl (needs-65th g))
 
   pub drop-only : (x : Refusal) → ackDrops s a n .answer ≡ NoCount x → OneOf (numberOf x) (7 ∷ 6 ∷ [])
   drop-only = drop .others
@@ -178,8 +194,19 @@ module _ (s : Send) (a n : ℕ) where
   moves : Test (not (settled s a n)) (Moves s (a + n)) ((length (s .chunks) ≡ 0) or (a + n ≤ ackOff (s .acked)))
   moves = negated (any (same (length (s .chunks)) 0) (most (a + n) (ackOff (s .acked))))
 
-  loss : Keeps counts (retransmits s a n .answer)
-      (line NeverSent (less (s .emitted) (a + n)) ∷ line TableFull (both moves (less 64 (length (back (s .chunks) a (a + n))))) ∷ [])
+  -- chunks are moved back, and so many would be left
+  abbrev Leaves65 : Type 0
+  Leaves65 = Moves s (a + n) and (64 < length (lost s a n .chunks))
+
+  leaves-65 : Test (not (settled s a n) && ltb 64 (length (back (s .chunks) a (a + n)))) Leaves65 (¬ Leaves65)
+  unfolding lost
+  leaves-65 = named (both moves (less 64 (length (back (s .chunks) a (a + n)))))
+      (λ h. (h .0, rw (goes-on (h .0)) (h .1)), λ h. (h .0, rw (goes-on (h .0)) at (h .1)))
+    where
+      goes-on : Moves s (a + n) → settled s a n ≡ false
+      goes-on h = not-true (settled s a n) (moves .yes .1 h)
+
+  loss : Keeps counts (retransmits s a n .answer) (line NeverSent (less (s .emitted) (a + n)) ∷ line TableFull leaves-65 ∷ [])
   unfolding retransmits lossJudged
   loss = keeps counts _ _ (in-count _ _) refl
 
@@ -189,7 +216,7 @@ module _ (s : Send) (a n : ℕ) where
 
   -- and TableFull exactly if chunks are moved back, and more than 64 would be left
   pub loss-table-full : (retransmits s a n .answer ≡ NoCount TableFull)
-      ↔ ((a + n ≤ s .emitted) and Moves s (a + n) and (64 < length (back (s .chunks) a (a + n))))
+      ↔ ((a + n ≤ s .emitted) and Moves s (a + n) and (64 < length (lost s a n .chunks)))
   loss-table-full = loss .exact TableFull
 
   pub loss-only : (x : Refusal) → retransmits s a n .answer ≡ NoCount x → OneOf (numberOf x) (7 ∷ 6 ∷ [])

@@ -4,7 +4,9 @@ pub mod Ruled
 pub mod Leaves
 pub mod Sender
 pub mod Receiver
+pub mod ExactTests
 pub mod Exact
+pub mod ExactKinds
 pub mod ExactLeaves
 pub mod ExactSender
 pub mod ExactReceiver

@@ -1,5 +1,5 @@
 -- The conditions of the ten refusals (docs/RULES.md, 2.1) in plain numbers: what proofs/Exact*.antt states its equivalences with.
--- `A and B`, `A or B` say what they say; a chain of `and` is read from the left, in the order of docs/RULES.md, 2.2.
+-- A chain of `and` is read from the left: what was tested before and let pass, in the order of docs/RULES.md, 2.2, and last the refusal's own condition.
 use mathlib.Core.Path.{_≡_}
 use mathlib.Core.Logic.{_⊎_, _≢_}
 use mathlib.Core.Bool.{Bool, true, false}
