@@ -1,0 +1,41 @@
+-- The write of no bytes with the end mark, which closes a stream (RULES 4.2). On a stream that is open and not stopped it is never refused,
+-- however full arena, table and limit are; it keeps no byte, and the end of what was written is the final size. Assumes nothing.
+use mathlib.Core.Path.{_≡_, ap}
+use mathlib.Core.Bool.{true, false}
+use Prim.Native.Nat.{ℕ, _+_, _-_}
+use native.Mathlib.Omega.{arith}
+use lib.ListN.{length}
+use borrow.Author.Tests.{le-ltb}
+use Rattle.refusal.specs.declared.Answer.the-variants.{Done}
+use Rattle.refusal.specs.declared.CountAnswer.the-variants.{Count}
+use Rattle.refusal.specs.declared.OptionU64.the-variants.{None, Some}
+use Rattle.send_buf.specs.State.{Send, base, GoodSend}
+use Rattle.send_buf.specs.Rules.{otherArena, accepted, marked, pieces, noRoom, noEntry, writeJudged, wrote, written}
+use Rattle.send_buf.proofs.Facts.{skip-nothing}
+
+module _ (s : Send) (g : GoodSend s) where
+  none-accepted : accepted s 0 ≡ 0
+  none-accepted = omega (arith, skip-nothing s g 0)
+
+  -- the mark is never dropped
+  mark-stays : marked s 0 true ≡ true
+  mark-stays = simp (le-ltb (s .limit - s .off) 0 (omega arith))
+
+  pub closing-accepted : (a : ℕ) → otherArena s a ≡ false → s .error ≡ None → s .fin ≡ None → writeJudged s a 0 true ≡ Done
+  unfolding writeJudged
+  closing-accepted a right running unended =
+      let room : noRoom s 0 ≡ false = le-ltb (s .room) (accepted s 0 + (s .off - base (s .chunks) (s .off))) (omega (arith, none-accepted, g .fits)) in
+      let entry : noEntry s 0 ≡ false = rw none-accepted (le-ltb 64 (length (s .chunks) + pieces 0) (omega (arith, g .few))) in
+      simp (right, running, unended, room, entry)
+
+  pub closing-sets : wrote s 0 true .fin ≡ Some (s .off)
+  unfolding wrote
+  closing-sets = rw mark-stays (ap Some (omega arith))
+
+  pub closing-keeps : (wrote s 0 true .off ≡ s .off) × (wrote s 0 true .buffered ≡ s .buffered)
+  unfolding wrote
+  closing-keeps = (omega (arith, none-accepted), omega (arith, none-accepted))
+
+  pub closing-answers : (a : ℕ) → otherArena s a ≡ false → s .error ≡ None → s .fin ≡ None → written s a 0 true .answer ≡ Count 0
+  unfolding written
+  closing-answers a right running unended = rw (closing-accepted a right running unended, none-accepted)
