@@ -1,10 +1,10 @@
 -- What it means that the receive buffer agrees with RFC 9000: the words in which the theorems of proofs/Rfc.antt are stated. Nothing is proved here.
 --
 -- The promise. Take a successful creation and any calls whatever. Each accepted call is an event of the RFC, a refused one is none (`events`). The
--- RFC's rules (Rfc9000) say what a receiver knows after those events. Then the buffer knows just that, and what it handed out is the stream's
--- bytes, in order (`Agrees`); it refuses a frame or a reset for flow control or final size exactly where a rule is broken (`Refuses`); and a read
--- gives the stream's next bytes, or is refused because there are none (`Reads`). What each theorem asks of limit, window and arena stands in
--- proofs/Rfc.antt.
+-- RFC's rules (Rfc9000) say what a receiver knows after those events. The buffer knows just that, but for a limit that may be smaller, and what it
+-- handed out is the stream's bytes, in order (`Agrees`); a read gives the stream's next bytes, or is refused because there are none (`Reads`). If the
+-- starting limit is at most the maximum window, the limit is the same too, and a frame or a reset is refused for flow control or final size exactly
+-- where a rule is broken (`Refuses`).
 --
 -- In reading order: the calls and what they do, by the definitions that the contracts cite; what a buffer knows; which event a call is; the claims.
 use mathlib.Core.Path.{_≡_}
