@@ -1,4 +1,4 @@
--- E8, E9 and E10 of document 01, as one statement over a table, about the definitions that the contracts cite: by computing them.
+-- E8, E9 and E10 of docs/RULES.md, 10, as one statement over a table, about the definitions that the contracts cite: by computing them.
 -- A second table, `further`, has what the rules say of marks, holes, room and shutdown.
 use mathlib.Core.Path.{_≡_, refl}
 use mathlib.Core.Bool.{true, false}
@@ -11,7 +11,8 @@ use Rattle.range_buf.specs.declared.RangeBuf.{RangeBuf}
 use Rattle.range_buf.specs.Rules.{start, end}
 use Rattle.recv_buf.specs.State.{bufOf}
 use Rattle.recv_buf.specs.Rules.{created, writeJudged, wrote, written, writtenArena, takeJudged, tookOut, discarded, emitted, emittedOut, resetJudged, wasReset, resets, shuts}
-use Rattle.recv_buf.proofs.Runs.{Call, write, emit, reset, shutdown, view, begin, answers, run}
+use Rattle.recv_buf.specs.RfcAgreement.{Call, write, emit, reset, shutdown, view, begin, run}
+use Rattle.recv_buf.proofs.Runs.{answers}
 
 -- a new buffer; the calls on it, each with what it has to answer; and then all bytes handed out, and where each chunk left starts and ends
 pub record Case : Type 0 where
@@ -33,7 +34,7 @@ refused number values = record { number = number; values = values }
 abbrev place : ℕ → List ℕ
 place n = replicate n 0
 
--- ---- document 01's examples
+-- ---- the examples of RULES 10
 
 abbrev pub table : List Case
 table =

@@ -12,6 +12,8 @@
 --   ours            a frame that breaks no rule is refused NoRoom or TableFull only
 --   buffers         with an arena as long as the maximum window, TableFull only
 --
+-- The words of these statements are defined in specs/RfcAgreement.antt; `start` and `told-by`, below, are short for two terms of them.
+--
 -- Assumes nothing.
 use mathlib.Core.Path.{_≡_, sym, ap, subst, _∙_}
 use mathlib.Core.Logic.{_⊎_, inl}
@@ -28,27 +30,14 @@ use Rattle.refusal.specs.declared.Refusal.the-variants.{NoRoom, TableFull}
 use Rattle.refusal.specs.declared.OptionU64.the-variants.{Some}
 use Rattle.recv_buf.specs.State.{Recv}
 use Rattle.recv_buf.specs.Rules.{created, written}
-use Rattle.recv_buf.specs.Rfc9000.{Known, opened, Frame, endOf, Tells, Event, streamFrame, history, handedOut, Breaks, Lawful}
+use Rattle.recv_buf.specs.Rfc9000.{Known, opened, Frame, endOf, Tells, streamFrame, history, Breaks}
+use Rattle.recv_buf.specs.RfcAgreement.{Call, Side, view, begin, run, known-of, events, unlimited, Agrees, given, Refuses, Reads}
 use Rattle.flowcontrol.proofs.Steady.{Steady, fresh-steady}
-use Rattle.recv_buf.proofs.Runs.{Call, Side, view, begin, run}
-use Rattle.recv_buf.proofs.RfcLaws.{Coherent, coherent-opened, coherent-history}
+use Rattle.recv_buf.proofs.RfcLaws.{coherent-opened, coherent-history}
 use Rattle.recv_buf.proofs.RfcState.{Sound, known-eq}
 use Rattle.recv_buf.proofs.RfcErrors.{ours-only, Wide, table-only}
-use Rattle.recv_buf.proofs.RfcRun.{events, known-of, unlimited, Near, Moved, right-of, moved-run, begun}
-use Rattle.recv_buf.proofs.RfcNow.{given, Refuses, refuses-now, Reads, reads-now}
-
--- what the state knows is what the RFC's history of the accepted calls says
-pub record Agrees (k : Known) (es : List Event) (y : Side) : Type 0 where
-  -- apart from a limit that may be smaller
-  pub near : Near (known-of y) (history k es)
-  -- that history breaks no rule
-  pub lawful : Lawful k es
-  -- and leaves a coherent knowledge
-  pub coherent : Coherent (history k es)
-  -- and hands out what was handed out
-  pub output : y .out ≡ handedOut k es
-  -- each byte of the stream once and in its place: byte o of the output is the byte received first for offset o
-  pub in-place : (o : ℕ) → o < length (y .out) → (history k es) .byte o ≡ Some (getD (y .out) o 0)
+use Rattle.recv_buf.proofs.RfcRun.{Moved, right-of, moved-run, begun}
+use Rattle.recv_buf.proofs.RfcNow.{refuses-now, reads-now}
 
 -- a successful creation, and then any calls
 module _ (limit maximum : ℕ) (ar : List ℕ) (new : created limit maximum (length ar) .answer ≡ Done) where

@@ -19,9 +19,10 @@ use Rattle.flowcontrol.specs.Rules.{next, committed, autotuned, recent, withWin
 use Rattle.recv_buf.specs.State.{Recv, Held, GoodRecv}
 use Rattle.recv_buf.specs.Rules.{holds, withChunks, withEnds, withFlow, withClosed, resetJudged, wasReset}
 use Rattle.recv_buf.specs.Rfc9000.{Known, isSome, takenOnly, resetStream, abort, advertise}
+use Rattle.recv_buf.specs.RfcAgreement.{knows}
 use Rattle.flowcontrol.proofs.Kept.{committed-good, autotuned-good}
 use Rattle.recv_buf.proofs.Kept.{reset-good, shut-good, flow-good}
-use Rattle.recv_buf.proofs.RfcState.{knows, Sound, known-eq, unheld}
+use Rattle.recv_buf.proofs.RfcState.{Sound, known-eq, unheld}
 use Rattle.refusal.specs.Rules.{known}
 use Rattle.tables.proofs.Tests.{either, clash}
 

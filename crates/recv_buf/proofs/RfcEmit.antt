@@ -24,9 +24,10 @@ use Rattle.range_buf.specs.declared.RangeBuf.{RangeBuf}
 use Rattle.recv_buf.specs.State.{Recv, Held, Chain, GoodRecv}
 use Rattle.recv_buf.specs.Rules.{holds, isReady, leftOver, takes, unlessReset, takeJudged, tookOut, withChunks, refusedTake, readable}
 use Rattle.recv_buf.specs.Rfc9000.{more, ordered, available, reading, isAll}
+use Rattle.recv_buf.specs.RfcAgreement.{seen, knows}
 use Rattle.recv_buf.proofs.Lists.{holds-held, holds-not, held-holds, held-not, left-held, taken-held, held-left, taken-within, held-ready, taken-most, taken-stops, taken-adjoining}
 use Rattle.recv_buf.proofs.Kept.{tookOut-good, refusedTake-good}
-use Rattle.recv_buf.proofs.RfcState.{seen, knows, Sound, known-eq, unheld, idle-reset, idle-shut}
+use Rattle.recv_buf.proofs.RfcState.{Sound, known-eq, unheld, idle-reset, idle-shut}
 use Rattle.tables.proofs.Tests.{either, clash, and-true, decided, undecided}
 
 -- ---- the ordered stream, read off an arena

@@ -1,4 +1,4 @@
--- FlowControl and FinalSize are refused exactly where a rule of RFC 9000, 4.1 or 4.5, is broken, in document 01's order. Assumes nothing.
+-- FlowControl and FinalSize are refused exactly where a rule of RFC 9000, 4.1 or 4.5, is broken, in the order of RULES 2.2. Assumes nothing.
 --
 --   write    BadSetup, Offset (19.8), FlowControl (4.1), FinalSize (4.5), and then our own sizes     setup-exact to ours-only, table-only
 --   reset    Offset, FinalSize (4.5), FlowControl (4.1)                                               reset-offset-exact to reset-flow-exact
@@ -24,10 +24,11 @@ use Rattle.refusal.specs.declared.OptionU64.the-variants.{None, Some}
 use Rattle.recv_buf.specs.State.{Recv}
 use Rattle.recv_buf.specs.Rules.{otherArena, passesFinal, noRoom, noEntry, writeJudged, badSize, overLimit, resetJudged, resets}
 use Rattle.recv_buf.specs.Rfc9000.{Frame, Tells, TooLarge, FlowControlError, data-over, size-over, FinalSizeError, changed, beyond, short, ResetSizeError, reset-changed, reset-short, ResetOver, streamFrame, resetFrame, Breaks}
+use Rattle.recv_buf.specs.RfcAgreement.{knows}
 use Rattle.flowcontrol.proofs.Steady.{Steady}
 use Rattle.recv_buf.proofs.Kept.{end-fits, accepted}
 use Rattle.recv_buf.proofs.RfcLaws.{over-limit, limit-over, past-final}
-use Rattle.recv_buf.proofs.RfcState.{knows, Sound}
+use Rattle.recv_buf.proofs.RfcState.{Sound}
 use Rattle.tables.proofs.Tests.{either, clash, and-true, or-true, or-false, decided, undecided}
 use Rattle.refusal.proofs.Chain.{passes}
 use Rattle.refusal.proofs.Answers.{known-not}
@@ -111,7 +112,7 @@ module _ (r : Recv) (ar out : List ℕ) (s : ℕ) (bytes : List ℕ) (fin : Bool
   lawful-write a e (inr (inl h)) = omega (arith, limit-over (knows r ar out) frame h, accepted r a s (length bytes) fin e .credit)
   lawful-write a e (inr (inr h)) = final-good (accepted r a s (length bytes) fin e .final) h
 
-  -- a frame with neither bytes nor mark breaks no rule of 4.1 or 4.5 (document 01 may still refuse it for its offset: flow-test, final-test)
+  -- a frame with neither bytes nor mark breaks no rule of 4.1 or 4.5 (RULES 7.2 may still refuse it for its offset: flow-test, final-test)
   pub silent : length bytes ≡ 0 → fin ≡ false → FlowControlError (knows r ar out) frame ⊎ FinalSizeError (knows r ar out) frame → ⊥
   silent n f (inl (data-over o b h)) = omega arith
   silent n f (inl (size-over h k)) = clash (sym h ∙ f)
@@ -173,7 +174,7 @@ module _ (r : Recv) (ar out : List ℕ) (s : ℕ) (bytes : List ℕ) (fin : Bool
           go (by-size x y w) = other offset w
 
       module _ (top : s + length bytes ≤ M) where
-        -- of any frame: FlowControl exactly if its end is above the limit, FinalSize exactly if it is not and document 01's test holds
+        -- of any frame: FlowControl exactly if its end is above the limit, FinalSize exactly if it is not and the test of RULES 7.2 holds
         pub flow-test : (writeJudged r a s (length bytes) fin ≡ Refused OverLimit) ↔ (r .flow .«max_data» < s + length bytes)
         flow-test = (
           λ e. go (because top OverLimit e),
@@ -262,7 +263,7 @@ module _ (r : Recv) (ar out : List ℕ) (g : Sound r ar out) (st : Steady (r .fl
           ∙ undecided x (Refused OverLimit) _ ∙ undecided y (Refused FinalSize) _
           ∙ undecided (roomy (ltb-false (r .flow .«max_data») (s + length bytes) x) y) (Refused NoRoom) _) ∙ e)
 
--- ---- a reset, in document 01's order: final size, "already reset", limit
+-- ---- a reset, in the order of RULES 2.2: final size, "already reset", limit
 
 module _ (r : Recv) (ar out : List ℕ) (size : ℕ) where
   size-good : badSize r size ≡ false → ResetSizeError (knows r ar out) size → ⊥

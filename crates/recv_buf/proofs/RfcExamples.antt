@@ -1,5 +1,5 @@
--- The definitions of Rfc9000 at work, by computing them: E8, E9 and E10 of document 01 as the RFC has them; that each rule can be broken;
--- and the places where document 01 and the RFC part.
+-- The definitions of Rfc9000 at work, by computing them: E8, E9 and E10 of docs/RULES.md, 10, as the RFC has them; that each rule can be broken;
+-- and the places where our rules and the RFC part.
 use mathlib.Core.Path.{_≡_, refl}
 use mathlib.Core.Bool.{Bool, true, false}
 use mathlib.Core.List.{List, [], _∷_}
@@ -12,13 +12,13 @@ use Rattle.arena.specs.Rules.{held}
 use Rattle.recv_buf.specs.State.{bufOf}
 use Rattle.recv_buf.specs.Rules.{created, writeJudged, wrote, written, writtenArena, takeJudged, tookOut, discarded, emitted, emittedOut, resetJudged, wasReset, resets, commits}
 use Rattle.recv_buf.specs.Rfc9000.{Known, opened, Frame, FlowControlError, data-over, size-over, FinalSizeError, changed, beyond, short, stream, ResetSizeError, reset-changed, reset-short, resetStream, available, reading, advertise, maxStreamData, history}
-use Rattle.recv_buf.proofs.Runs.{Call, write, emit, reset, commit, Side, begin, answers, run, view}
-use Rattle.recv_buf.proofs.RfcRun.{events}
+use Rattle.recv_buf.specs.RfcAgreement.{Call, write, emit, reset, commit, Side, view, begin, run, events}
+use Rattle.recv_buf.proofs.Runs.{answers}
 
 abbrev frame : ℕ → List ℕ → Bool → Frame
 frame s bytes fin = record { from = s; bytes = bytes; fin = fin }
 
--- ---- document 01's examples
+-- ---- the examples of RULES 10
 
 -- E8: 5..10, then 0..7: bytes 5 and 6 are the first frame's
 abbrev K₈ : Known
@@ -67,7 +67,7 @@ final-broken : FinalSizeError K₉ (frame 9 [] true) × FinalSizeError K₈ (fra
 unfolding opened stream
 final-broken = (changed 10 refl refl (omega arith), short refl (omega arith))
 
--- ---- where document 01 and the RFC part
+-- ---- where our rules and the RFC part
 
 abbrev new : ℕ → ℕ → ℕ → Side
 new limit maximum room = begin limit maximum (replicate room 0)

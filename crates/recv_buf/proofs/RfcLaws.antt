@@ -14,6 +14,7 @@ use Rattle.tables.proofs.Tables.{cases, cond-elim}
 use Rattle.refusal.specs.declared.OptionU64.{OptionU64}
 use Rattle.refusal.specs.declared.OptionU64.the-variants.{None, Some}
 use Rattle.recv_buf.specs.Rfc9000.{Known, opened, Frame, endOf, Tells, FlowControlError, data-over, size-over, FinalSizeError, changed, beyond, short, dataAt, first, isSome, closed, stream, reset-changed, reset-short, takenOnly, resetStream, more, ordered, reading, abort, advertise, Event, streamFrame, resetFrame, readUpTo, giveUp, maxStreamData, effect, history, Breaks, Lawful}
+use Rattle.recv_buf.specs.RfcAgreement.{Coherent}
 use Rattle.tables.proofs.Tests.{either, clash, or-true, or-false}
 
 -- a number that may be missing
@@ -80,12 +81,6 @@ final-stays k giveUp x h e = e
 final-stays k (maxStreamData v) x h e = e
 
 -- ---- what is known is coherent
-
-pub record Coherent (k : Known) : Type 0 where
-  pub inside : (o b : ℕ) → k .byte o ≡ Some b → o < k .highest  -- no byte at or above the highest offset
-  pub credit : k .highest ≤ k .limit  -- nothing beyond the limit
-  pub settled : (x : ℕ) → k .final ≡ Some x → k .highest ≡ x  -- nor beyond the final size, which counts as received
-  pub whole : (o : ℕ) → o < k .delivered → isSome (k .byte o) ≡ true  -- what was taken was known
 
 pub coherent-opened : (l : ℕ) → Coherent (opened l)
 unfolding opened

@@ -1,6 +1,6 @@
 -- What a sound buffer answers, against what it knows: `Refuses`, the errors of frames and resets; `Reads`, what emits and discards take. Assumes nothing.
 use mathlib.Core.Path.{_≡_, sym, ap, _∙_}
-use mathlib.Core.Logic.{_⊎_, _↔_}
+use mathlib.Core.Logic.{_↔_}
 use mathlib.Core.Bool.{Bool, false, cond}
 use mathlib.Core.List.{List, [], _++_}
 use Prim.Native.Nat.{ℕ, _+_, _-_, _≤_}
@@ -14,38 +14,20 @@ use Rattle.refusal.specs.declared.EmitAnswer.{EmitAnswer}
 use Rattle.refusal.specs.declared.EmitAnswer.the-variants.{Emitted, Refused as NoBytes}
 use Rattle.refusal.specs.declared.SizesAnswer.the-variants.{Refused as NoSizes}
 use Rattle.refusal.specs.declared.Refusal.{Refusal}
-use Rattle.refusal.specs.declared.Refusal.the-variants.{Offset, FinalSize, FlowControl as OverLimit}
-use Rattle.refusal.specs.declared.OptionU64.the-variants.{None}
+use Rattle.refusal.specs.declared.Refusal.the-variants.{FinalSize, FlowControl as OverLimit}
 use Rattle.arena.specs.Rules.{held}
 use Rattle.recv_buf.specs.declared.EmitOutcome.{EmitOutcome}
-use Rattle.recv_buf.specs.Rules.{otherArena, written, takes, takeJudged, discarded, emitted, emittedOut, resetJudged, resets, readable}
-use Rattle.recv_buf.specs.Rfc9000.{Known, Frame, endOf, Tells, TooLarge, FlowControlError, FinalSizeError, ResetSizeError, ResetOver, available, isAll}
-use Rattle.recv_buf.proofs.Runs.{Side, view}
+use Rattle.recv_buf.specs.Rules.{otherArena, written, takes, takeJudged, discarded, emitted, emittedOut, resetJudged, resets}
+use Rattle.recv_buf.specs.Rfc9000.{Frame, endOf, TooLarge, available, isAll}
+use Rattle.recv_buf.specs.RfcAgreement.{Side, view, known-of, unlimited, Refuses, Reads}
 use Rattle.recv_buf.proofs.RfcState.{Sound}
 use Rattle.recv_buf.proofs.RfcErrors.{offset-exact, flow-exact, final-exact, reset-final-exact, reset-flow-exact}
 use Rattle.recv_buf.proofs.RfcEmit.{knows-emit, emit-refused, readable-exact}
-use Rattle.recv_buf.proofs.RfcRun.{known-of, unlimited, right-of, emit-is}
+use Rattle.recv_buf.proofs.RfcRun.{right-of, emit-is}
 use Rattle.refusal.proofs.Answers.{bytes-done, bytes-refused}
 use Rattle.tables.proofs.Tests.{either, undecided}
 
 -- ---- the errors
-
--- what a frame is answered
-abbrev pub given : Side → Frame → Answer
-given y f = written (view y) (length (y .arena)) (f .from) (length (f .bytes)) (f .fin) .answer
-
-pub record Refuses (k : Known) (y : Side) : Type 0 where
-  -- 19.8
-  pub too-large : (f : Frame) → (given y f ≡ Refused Offset) ↔ TooLarge f
-  -- 4.1, of a frame with bytes or mark
-  pub flow : (f : Frame) → (TooLarge f → ⊥) → Tells f → (given y f ≡ Refused OverLimit) ↔ FlowControlError k f
-  -- 4.5
-  pub final : (f : Frame) → (TooLarge f → ⊥) → Tells f → (given y f ≡ Refused FinalSize) ↔ ((FlowControlError k f → ⊥) × FinalSizeError k f)
-  -- 4.5, of a RESET_STREAM
-  pub reset-final : (code size : ℕ) → size ≤ M → (resets (view y) code size .answer ≡ NoSizes FinalSize) ↔ ResetSizeError k size
-  -- 4.1, of the first one
-  pub reset-flow : (code size : ℕ) → size ≤ M
-      → (resets (view y) code size .answer ≡ NoSizes OverLimit) ↔ ((ResetSizeError k size → ⊥) × (k .reset ≡ None) × ResetOver k size)
 
 -- the answer of a reset is refused as its tests say
 sizes-refused : (said : Answer) (a b : ℕ) (why : Refusal) → (withSizes said a b ≡ NoSizes why) ↔ (said ≡ Refused why)
@@ -73,22 +55,6 @@ refuses-now y g = record {
     top f n = cases M (endOf f) (λ h. absurd (n h)) (λ h. h)
 
 -- ---- what a read takes
-
-pub record Reads (k : Known) (y : Side) : Type 0 where
-  -- an emit hands out the next bytes of the ordered stream, as many as are known in a row and fit, and leaves the rest of the output;
-  -- its mark says that all of the stream was taken
-  pub handed : (out : List ℕ) (count : ℕ) (ended : Bool) → emitted (view y) (length (y .arena)) (length out) .answer ≡ Emitted count ended
-      → (emittedOut (view y) (y .arena) out ≡ available k (length out) ++ drop count out) × (count ≡ length (available k (length out)))
-      × (ended ≡ isAll (k .final) (k .delivered + count))
-  -- a discard counts the same
-  pub dropped : (n count : ℕ) (ended : Bool) → discarded (view y) n .answer ≡ Emitted count ended
-      → (count ≡ length (available k n)) × (ended ≡ isAll (k .final) (k .delivered + count))
-  -- `readable_len` tells how many bytes that would be
-  pub ahead : (most : ℕ) → readable (view y) most ≡ length (available k most)
-  -- either is refused only if there is no next byte
-  pub nothing : (n : ℕ) (why : Refusal)
-      → (emitted (view y) (length (y .arena)) n .answer ≡ NoBytes why) ⊎ (discarded (view y) n .answer ≡ NoBytes why)
-      → (i : ℕ) → available k i ≡ []
 
 module _ (y : Side) (g : Sound (view y) (y .arena) (y .out)) where
   dropped-now : (n count : ℕ) (ended : Bool) → discarded (view y) n .answer ≡ Emitted count ended

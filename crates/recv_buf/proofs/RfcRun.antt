@@ -27,50 +27,18 @@ use Rattle.recv_buf.specs.declared.EmitOutcome.{EmitOutcome}
 use Rattle.recv_buf.specs.State.{Recv, viewOf, bufOf}
 use Rattle.recv_buf.specs.Rules.{otherArena, isReady, newRecv, badNumbers, created, writeJudged, wrote, written, writtenArena, takes, takeJudged, tookOut, refusedTake, discarded, emitted, emittedOut, resetJudged, wasReset, resets, shuts, withFlow, commits, autotunes}
 use Rattle.recv_buf.specs.Rfc9000.{Known, opened, data-over, size-over, changed, beyond, short, isSome, stream, reset-changed, reset-short, takenOnly, resetStream, available, reading, abort, advertise, Event, streamFrame, resetFrame, readUpTo, giveUp, maxStreamData, effect, history, handedOut, Breaks, Lawful}
+use Rattle.recv_buf.specs.RfcAgreement.{Call, write, emit, discard, reset, shutdown, commit, tune, Side, view, begin, countOf, answer, step, run, knows, known-of, event, events, unlimited, Near}
 use Rattle.recv_buf.proofs.Good.{view-buf}
 use Rattle.flowcontrol.proofs.Steady.{Steady, consumed-steady, committed-steady, autotuned-steady}
-use Rattle.recv_buf.proofs.Runs.{Call, write, emit, discard, reset, shutdown, commit, tune, Side, view, begin, countOf, answer, step, run}
 use Rattle.recv_buf.proofs.RfcLaws.{final-stays}
-use Rattle.recv_buf.proofs.RfcState.{knows, Sound, knows-new, sound-new}
+use Rattle.recv_buf.proofs.RfcState.{Sound, knows-new, sound-new}
 use Rattle.recv_buf.proofs.RfcWrite.{Numbers, numbers, knows-write, sound-write}
 use Rattle.recv_buf.proofs.RfcErrors.{lawful-write, lawful-reset, Wide}
 use Rattle.recv_buf.proofs.RfcEmit.{went, knows-emit, knows-refused}
 use Rattle.recv_buf.proofs.RfcCalls.{knows-reset, shut, knows-shut, sound-commit, knows-tune}
 use Rattle.tables.proofs.Tests.{or-false, undecided}
 
--- ---- the events of a run
-
--- what an accepted call is to the RFC; autotuning tells the peer nothing
-abbrev pub eventOf : Side → Call → List Event
-eventOf x (write s bytes fin) = streamFrame (record { from = s; bytes = bytes; fin = fin }) ∷ []
-eventOf x (emit out) = readUpTo (length out) ∷ []
-eventOf x (discard n) = readUpTo n ∷ []
-eventOf x (reset code size) = resetFrame code size ∷ []
-eventOf x shutdown = giveUp ∷ []
-eventOf x (commit now) = maxStreamData (next (view x .flow)) ∷ []
-eventOf x (tune now rtt) = []
-
--- a call that answers a refusal is no event
-abbrev pub event : Side → Call → List Event
-event x c = cond (eqb (answer x c .number) 0) (eventOf x c) []
-
-abbrev pub events : Side → List Call → List Event
-events x [] = []
-events x (c ∷ cs) = event x c ++ events (step x c) cs
-
-abbrev pub known-of : Side → Known
-known-of x = knows (view x) (x .arena) (x .out)
-
 -- ---- apart from the limit
-
--- all but the limit
-abbrev pub unlimited : Known → Known
-unlimited k = record { byte = k .byte; highest = k .highest; final = k .final; limit = 0; delivered = k .delivered; reset = k .reset; aborted = k .aborted }
-
--- j is k, but its limit may be the smaller: a commit can take the buffer's down (document 01, "Where we differ"), where the RFC keeps the largest
-pub record Near (j k : Known) : Type 0 where
-  pub same : unlimited j ≡ unlimited k
-  pub limit : j .limit ≤ k .limit
 
 -- no effect looks at the limit, and only one changes it
 unlimited-effect : (k : Known) (e : Event) → unlimited (effect k e) ≡ unlimited (effect (unlimited k) e)

@@ -1,4 +1,4 @@
--- A receive buffer read as RFC 9000's knowledge: `knows`; and what holds of every buffer that came from creation or a call, beside being good: `Sound`.
+-- Of a receive buffer read as RFC 9000's knowledge (`knows`): what holds of every one that came from creation or a call, beside being good, `Sound`.
 -- Assumes nothing.
 use mathlib.Core.Path.{_≡_, refl, ap, subst}
 use mathlib.Core.Bool.{Bool, true, false, cond, _||_}
@@ -9,34 +9,17 @@ use lib.Dec.{ltb}
 use lib.ListN.{length, getD}
 use borrow.Author.Tests.{le-ltb}
 use Rattle.refusal.specs.Rules.{M}
-use Rattle.refusal.specs.declared.OptionU64.{OptionU64}
 use Rattle.refusal.specs.declared.OptionU64.the-variants.{None, Some}
 use Rattle.arena.specs.Rules.{byteAt}
 use Rattle.range_buf.specs.declared.RangeBuf.{RangeBuf}
 use Rattle.recv_buf.specs.State.{Recv, Held, GoodRecv}
-use Rattle.recv_buf.specs.Rules.{holds, newRecv}
+use Rattle.recv_buf.specs.Rules.{newRecv}
 use Rattle.recv_buf.specs.Rfc9000.{Known, opened, isSome}
+use Rattle.recv_buf.specs.RfcAgreement.{seen, knows}
 use Rattle.recv_buf.proofs.Lists.{held-not, chain-held, within-held}
 use Rattle.recv_buf.proofs.Kept.{new-good}
 use Rattle.recv_buf.proofs.RfcLaws.{some-is}
 use Rattle.tables.proofs.Tests.{either, or-true}
-
--- ---- what a state knows; `ar` is its arena, and `out` are the bytes handed out so far
-
--- the byte of offset o: handed out, or kept in the arena
-abbrev pub seen : Recv → List ℕ → List ℕ → ℕ → OptionU64
-seen r ar out o = cond (ltb o (r .flow .consumed)) (Some (getD out o 0)) (cond (holds (r .chunks) o) (Some (byteAt ar o)) None)
-
-abbrev pub knows : Recv → List ℕ → List ℕ → Known
-knows r ar out = record {
-  byte = seen r ar out;
-  highest = r .len;
-  final = r .fin;
-  limit = r .flow .«max_data»;
-  delivered = r .flow .consumed;
-  reset = r .error;
-  aborted = r .drain;
-}
 
 -- what holds of every state that came from a successful creation or a call, with the arena it was created for
 pub record Sound (r : Recv) (ar out : List ℕ) : Type 0 where

@@ -18,12 +18,13 @@ use Rattle.flowcontrol.specs.declared.FlowControl.{FlowControl}
 use Rattle.recv_buf.specs.State.{Recv}
 use Rattle.recv_buf.specs.Rules.{withChunks, withEnds, chunksAfter, writeJudged, wrote, holds, keptNew, writtenArena}
 use Rattle.recv_buf.specs.Rfc9000.{dataAt, first, isSome, stream}
+use Rattle.recv_buf.specs.RfcAgreement.{seen, knows}
 use Rattle.recv_buf.proofs.Lists.{holds-held, holds-not, held-holds, held-not}
 use Rattle.recv_buf.proofs.Frames.{New, held-wrote, wrote-held}
 use Rattle.recv_buf.proofs.Bytes.{kept-length, kept-stays, kept-new}
 use Rattle.recv_buf.proofs.Kept.{EndFits, end-fits, Accepted, accepted, fits-room, wrote-good}
 use Rattle.recv_buf.proofs.RfcLaws.{dataAt-inside, dataAt-is, dataAt-none, some-is, none-is}
-use Rattle.recv_buf.proofs.RfcState.{seen, knows, Sound, known-eq, unheld, idle}
+use Rattle.recv_buf.proofs.RfcState.{Sound, known-eq, unheld, idle}
 use Rattle.refusal.specs.Rules.{finWith}
 use Rattle.tables.proofs.Tests.{either, clash, and-true, or-true, or-false}
 

@@ -1,4 +1,4 @@
--- The receive buffer, as document 01 has it ("Receive side"; refusals 1, 3, 4, 5, 6, 8, 9, 10).
+-- The receive buffer, as docs/RULES.md, 7, has it (refusals 1, 3, 4, 5, 6, 8, 9, 10).
 --
 -- The life of a byte. A frame brings it: it is KEPT, if it lies at or above `off` and no byte is kept there yet, at its place in the arena,
 -- in the chunk of its run. Once all before it were handed out, an emit HANDS it OUT: `off` goes past it, and its place is free.
@@ -6,7 +6,7 @@
 --      handed out | kept, with holes between the chunks |
 --                off                                   len        off + A
 --
--- Each call has its refusals, one named test to a line in the order of document 01, and apart from them its effect. Sums are whole numbers.
+-- Each call has its refusals, one named test to a line in the order of RULES 2.2, and apart from them its effect. Sums are whole numbers.
 -- `cond t x y` is x if the test t holds, else y.
 use mathlib.Core.Bool.{Bool, true, false, cond, not, _&&_, _||_}
 use mathlib.Core.List.{List, [], _∷_, _++_}
