@@ -20,7 +20,7 @@ in the root of the crate.
 
 MODULE is the file of specs/ that has DEF; REQ is antt over h (the struct) and n1 .. nk, as 'h .count < 64'; K is the number k of numbers; with ENUM
 the answer is that enum in place of a u64. Run it in the root of a tree: it writes crates/CRATE/proofs/F/Proof.antt. The check proves that file like
-any other: nothing here is trusted. `crates/flowcontrol/proofs/lent` has three that went this way and were then changed by hand.
+any other: nothing here is trusted. `crates/flowcontrol/proofs/lent` has three proofs of this form.
 """
 import os
 import sys
