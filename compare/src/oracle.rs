@@ -24,9 +24,9 @@ use quiche::stream::RecvAction;
 use quiche::BufFactory;
 use quiche::Error;
 use quiche::Result;
-use script::bytes_of;
 use script::bytes_text;
 use script::option;
+use script::room;
 use script::Call;
 use script::Side;
 
@@ -79,11 +79,11 @@ impl Objects {
         }
     }
 
-    fn window(&mut self, call: &str, n: &[u64]) -> Option<String> {
-        let (now, zero) = (n.first().copied().unwrap_or(0), self.zero);
+    fn window(&mut self, call: &Call) -> Option<String> {
+        let (now, zero) = (call.first().unwrap_or(0), self.zero);
         let at = zero + Duration::from_micros(now);
         let f = self.fc.as_mut()?;
-        Some(match call {
+        Some(match call.call {
             "add_consumed" => {
                 f.add_consumed(now);
                 "ok".into()
@@ -93,7 +93,7 @@ impl Objects {
                 "ok".into()
             }
             "autotune" => {
-                f.autotune_window(at, Duration::from_micros(n[1]));
+                f.autotune_window(at, Duration::from_micros(call.n[1]));
                 "ok".into()
             }
             "lower_bound" => {
@@ -107,9 +107,9 @@ impl Objects {
         })
     }
 
-    fn chunk(&mut self, call: &str, n: &[u64], words: &[&str]) -> Option<String> {
-        let b = self.rb.as_mut()?;
-        Some(match call {
+    fn chunk(&mut self, call: &Call) -> Option<String> {
+        let (b, n) = (self.rb.as_mut()?, &call.n);
+        Some(match call.call {
             "consume" => {
                 b.consume(n[0] as usize);
                 "ok".into()
@@ -117,7 +117,7 @@ impl Objects {
             "split" => {
                 let right = b.split_off(n[0] as usize);
                 let text = format!("ok {}", range_buf::show(&right));
-                if words[1] == "r" {
+                if call.yes {
                     *b = right;
                 }
                 text
@@ -129,9 +129,9 @@ impl Objects {
         })
     }
 
-    fn set(&mut self, call: &str, n: &[u64]) -> Option<String> {
-        let s = self.rs.as_mut()?;
-        Some(match call {
+    fn set(&mut self, call: &Call) -> Option<String> {
+        let (s, n) = (self.rs.as_mut()?, &call.n);
+        Some(match call.call {
             "insert" => {
                 s.insert(n[0]..n[1]);
                 "ok".into()
@@ -152,13 +152,13 @@ impl Objects {
         })
     }
 
-    fn send(&mut self, call: &str, n: &[u64], words: &[&str]) -> Option<String> {
-        let s = self.s.as_mut()?;
+    fn send(&mut self, call: &Call) -> Option<String> {
+        let (s, n) = (self.s.as_mut()?, &call.n);
         let sizes = |(a, b): (u64, u64)| format!("ok {a} {b}");
-        Some(match call {
-            "write" => or_refusal(s.write(&bytes_of(words[0]), words[1] == "1"), |k| format!("ok {k}")),
+        Some(match call.call {
+            "write" => or_refusal(s.write(&call.bytes, call.yes), |k| format!("ok {k}")),
             "emit" => {
-                let mut out = vec![0; n[0] as usize];
+                let mut out = vec![0; room(n[0], stream::send_buf::holds(s))];
                 or_refusal(s.emit(&mut out), |(k, fin)| format!("ok {k} {} {}", fin as u8, bytes_text(&out[..k])))
             }
             "update_max_data" => {
@@ -166,7 +166,7 @@ impl Objects {
                 "ok".into()
             }
             "update_blocked_at" => {
-                s.update_blocked_at(words[0].parse().ok());
+                s.update_blocked_at(call.first());
                 "ok".into()
             }
             "ack" => {
@@ -200,17 +200,17 @@ impl Objects {
         })
     }
 
-    fn recv(&mut self, call: &str, n: &[u64], words: &[&str]) -> Option<String> {
-        let (zero, first) = (self.zero, n.first().copied().unwrap_or(0));
+    fn recv(&mut self, call: &Call) -> Option<String> {
+        let (zero, n, first) = (self.zero, &call.n, call.first().unwrap_or(0));
         let at = |micros| zero + Duration::from_micros(micros);
         let r = self.r.as_mut()?;
-        Some(match call {
+        Some(match call.call {
             "write" => {
-                let buf = RangeBuf::from(&bytes_of(words[1]), first, words[2] == "1");
+                let buf = RangeBuf::from(&call.bytes, first, call.yes);
                 or_refusal(r.write(buf), |_| "ok".into())
             }
             "emit" => {
-                let mut out = vec![0; first as usize];
+                let mut out = vec![0; room(first, stream::recv_buf::holds(r))];
                 or_refusal(r.emit(&mut out), |(k, fin)| format!("ok {k} {} {}", fin as u8, bytes_text(&out[..k])))
             }
             "discard" => {
@@ -253,10 +253,10 @@ impl Objects {
     }
 
     fn make(&mut self, call: &Call) -> Option<String> {
-        let (n, words) = (&call.n[..], &call.words[..]);
+        let n = &call.n;
         if call.call == "new" {
             match call.object {
-                "rb" => self.rb = Some(RangeBuf::from(&bytes_of(words[1]), n[0], false)),
+                "rb" => self.rb = Some(RangeBuf::from(&call.bytes, n[0], false)),
                 "fc" => self.fc = Some(flowcontrol::FlowControl::new(n[0], n[1], n[2])),
                 "rs" => self.rs = Some(ranges::RangeSet::new(n[0] as usize)),
                 "s" => self.s = Some(SendBuf::new(n[0])),
@@ -265,11 +265,11 @@ impl Objects {
             return Some("ok".into());
         }
         match call.object {
-            "rb" => self.chunk(call.call, n, words),
-            "fc" => self.window(call.call, n),
-            "rs" => self.set(call.call, n),
-            "s" => self.send(call.call, n, words),
-            _ => self.recv(call.call, n, words),
+            "rb" => self.chunk(call),
+            "fc" => self.window(call),
+            "rs" => self.set(call),
+            "s" => self.send(call),
+            _ => self.recv(call),
         }
     }
 }
@@ -301,7 +301,7 @@ impl Side for Objects {
     }
 }
 
-fn main() {
+fn main() -> std::process::ExitCode {
     std::panic::set_hook(Box::new(|_| {}));
-    script::serve(&mut Objects::new(Instant::now()));
+    script::serve(&mut Objects::new(Instant::now()))
 }

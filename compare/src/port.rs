@@ -15,11 +15,11 @@ use raw::RangeBufState;
 use raw::RangeSetState;
 use raw::RecvBufState;
 use raw::SendBufState;
-use script::bytes_of;
 use script::bytes_text;
 use script::chunk_text;
 use script::option;
 use script::ranges_text;
+use script::room;
 use script::window_text;
 use script::Call;
 use script::Side;
@@ -45,8 +45,19 @@ fn sizes(answer: Answer) -> String {
     told(answer, |a| format!("ok {} {}", a.first, a.second))
 }
 
+/// An arena of so many zero bytes. One longer than the longest there is, 65,536, is made a byte too long and no longer: creation and every
+/// call that is lent it refuse it by its length alone, whichever it is (RULES 4.1, 7.1), and no buffer has one of that length.
+fn arena(len: u64) -> Vec<u8> {
+    vec![0; len.min(65_537) as usize]
+}
+
 /// What stands in an output before a call.
 const REST: u8 = 0xa5;
+
+/// An output of so many bytes, for a buffer with this arena, which holds no more than the arena's length.
+fn output(asked: u64, arena: &[u8]) -> Vec<u8> {
+    vec![REST; room(asked, arena.len() as u64)]
+}
 
 /// An answer with bytes handed out: behind them the output is to be as it was.
 fn handed(answer: Answer, out: &[u8]) -> String {
@@ -130,19 +141,15 @@ impl Objects {
     fn create(&mut self, call: &Call) -> String {
         let n = &call.n;
         match call.object {
-            "rb" => created(
-                &mut self.rb,
-                raw::range_buf_from(n[0], bytes_of(call.words[1]).len() as u64),
-                |s| s,
-            ),
+            "rb" => created(&mut self.rb, raw::range_buf_from(n[0], call.bytes.len() as u64), |s| s),
             "fc" => created(&mut self.fc, raw::flow_control_new(n[0], n[1], n[2]), |s| s),
             "rs" => created(&mut self.rs, raw::range_set_new(n[0] as usize), |s| s),
             "s" => {
-                let arena = vec![0; n[1].min(1 << 20) as usize];
+                let arena = arena(n[1]);
                 created(&mut self.s, raw::send_buf_new(n[0], &arena), |state| Lent { state, arena })
             }
             _ => {
-                let arena = vec![0; n[2].min(1 << 20) as usize];
+                let arena = arena(n[2]);
                 created(&mut self.r, raw::recv_buf_new(n[0], n[1], &arena), |state| Lent {
                     state,
                     arena,
@@ -158,7 +165,7 @@ impl Objects {
             "split" => {
                 let out = raw::range_buf_split_off(*b, call.n[0]);
                 let right = out.right;
-                *b = if out.answer.number == 0 && call.words[1] == "r" {
+                *b = if out.answer.number == 0 && call.yes {
                     right
                 } else {
                     out.state
@@ -198,21 +205,21 @@ impl Objects {
 
     fn send(&mut self, call: &Call) -> Option<String> {
         let (Lent { state: s, arena }, n) = (self.s.as_mut()?, &call.n);
-        let mut other = call.arena.map(|len| vec![0; len]);
+        let mut other = call.arena.map(self::arena);
         let arena = other.as_mut().unwrap_or(arena);
         Some(match call.call {
             "write" => {
-                let (bytes, before) = (bytes_of(call.words[0]), arena.clone());
-                let said = count(step(s, raw::send_buf_write(*s, arena, &bytes, call.words[1] == "1")));
+                let before = arena.clone();
+                let said = count(step(s, raw::send_buf_write(*s, arena, &call.bytes, call.yes)));
                 kept(said, &before, arena, &s.data[..s.count])
             }
             "emit" => {
-                let mut out = vec![REST; n[0] as usize];
+                let mut out = output(n[0], arena);
                 handed(step(s, raw::send_buf_emit(*s, arena, &mut out)), &out)
             }
             "update_max_data" => plain(step(s, raw::send_buf_update_max_data(*s, n[0]))),
             "update_blocked_at" => {
-                *s = raw::send_buf_update_blocked_at(*s, call.words[0] != "-", n[0]);
+                *s = raw::send_buf_update_blocked_at(*s, call.first().is_some(), call.first().unwrap_or(0));
                 "ok".into()
             }
             "ack" => plain(step(s, raw::send_buf_ack(*s, n[0], n[1]))),
@@ -227,7 +234,7 @@ impl Objects {
 
     fn recv(&mut self, call: &Call) -> Option<String> {
         let (Lent { state: r, arena }, n) = (self.r.as_mut()?, &call.n);
-        let mut other = call.arena.map(|len| vec![0; len]);
+        let mut other = call.arena.map(self::arena);
         let arena = other.as_mut().unwrap_or(arena);
         if let Some(call) = call.call.strip_prefix("fc.") {
             let mut flow = raw::recv_buf_flow_control(*r);
@@ -237,12 +244,12 @@ impl Objects {
         }
         Some(match call.call {
             "write" => {
-                let (bytes, before) = (bytes_of(call.words[1]), arena.clone());
-                let said = plain(step(r, raw::recv_buf_write(*r, arena, n[0], &bytes, call.words[2] == "1")));
+                let before = arena.clone();
+                let said = plain(step(r, raw::recv_buf_write(*r, arena, n[0], &call.bytes, call.yes)));
                 kept(said, &before, arena, &r.data[..r.count])
             }
             "emit" => {
-                let mut out = vec![REST; n[0] as usize];
+                let mut out = output(n[0], arena);
                 handed(step(r, raw::recv_buf_emit(*r, arena, &mut out)), &out)
             }
             "discard" => sizes(step(r, raw::recv_buf_discard(*r, n[0]))),
@@ -384,6 +391,6 @@ impl Side for Objects {
     }
 }
 
-fn main() {
-    script::serve(&mut Objects::default());
+fn main() -> std::process::ExitCode {
+    script::serve(&mut Objects::default())
 }

@@ -76,6 +76,11 @@ pub mod stream {
     pub mod send_buf {
         include!(concat!(env!("QUICHE_SRC"), "/stream/send_buf.rs"));
 
+        /// All bytes that it holds, at least those that an emit can hand out.
+        pub fn holds(s: &SendBuf) -> u64 {
+            s.data.iter().map(|b| crate::range_buf::whole(b).len() as u64).sum()
+        }
+
         pub fn show(s: &SendBuf) -> String {
             let chunks: Vec<String> = s.data.iter().map(crate::range_buf::show).collect();
             let held: Vec<u8> = s.data.iter().flat_map(|b| crate::range_buf::whole(b).to_vec()).collect();
@@ -99,6 +104,11 @@ pub mod stream {
 
     pub mod recv_buf {
         include!(concat!(env!("QUICHE_SRC"), "/stream/recv_buf.rs"));
+
+        /// All bytes that are still to be handed out.
+        pub fn holds(r: &RecvBuf) -> u64 {
+            r.data.values().map(|b| b.len() as u64).sum()
+        }
 
         pub fn show(r: &RecvBuf, zero: Instant) -> String {
             let chunks: Vec<String> = r.data.values().map(crate::range_buf::show).collect();
