@@ -97,7 +97,7 @@ fn stall(ended: Run)
     say(b"carry: STALLED: the reader waits for byte ");
     text::number(ended.recv.off_front());
     if ended.is_stuck() {
-        say(b", and all 64 entries of the receive table hold bytes behind it:\n");
+        say(b", and all 64 entries of the receive table hold what lies behind it:\n");
         say(b"carry: each frame that brings it is refused TableFull (6), for ever\n");
     } else {
         say(b", and no byte was handed out in a million rounds\n");

@@ -4,13 +4,16 @@
 // in flight waits, or comes to the end, where it is lost or arrives; one that arrived may stay, to arrive again.
 //
 // Every frame ends at a multiple of the frame size or at the final size, as docs/OPERATORS.md advises: so with a receive arena of at most 63
-// frames the receive table never fills.
+// frames the receive table never fills (crate channel, `ends-suffice`).
 //
 // No slot is held for ever. A frame whose report the sender refuses stays in flight and comes to the end again, where it may still arrive,
 // since no channel here loses all. And the byte that the reader waits for is always in flight or the first to be sent: a slot that its loss
 // frees is filled with it.
+ghost use mathlib.Core.Path.{_≡_};
 ghost use Prim.Native.Nat.{_<_, _≤_};
+ghost use Rattle.tables.specs.Checks.{allBy};
 ghost use Rattle.carry.specs.Sound.{Sound};
+ghost use Rattle.carry.specs.Verdict.{isFree, finished};
 use crate::calls;
 use crate::credit;
 use crate::refusals;
@@ -142,26 +145,17 @@ impl Run {
     }
 
     // Has the receiver handed out everything, and is nothing in flight?
-    pub fn is_done(self) -> bool {
+    pub fn is_done(self) -> bool
+        ensures { λ r. ⌜ r ≡ finished self ⌝ }
+    {
         if self.broken {
             return false;
         }
-        if !self.recv.is_fin() {
-            return false;
+        if self.recv.is_fin() {
+            let frames = self.frames;
+            return are_free(frames);
         }
-        self.is_still()
-    }
-
-    fn is_still(self) -> bool {
-        let mut i: usize = 0;
-        while i < 8 {
-            let frame = self.frames[i];
-            if frame.busy {
-                return false;
-            }
-            i += 1;
-        }
-        true
+        false
     }
 
     fn counted(self) -> Run
@@ -176,8 +170,8 @@ impl Run {
 
     // ---- the input
 
-    // Reads on until the window is full or the input has ended: a frame is sent when all of it is written, so a piece of the input must not
-    // lie here for want of a few bytes more.
+    // Reads on until the window is full or the input has ended. A frame waits until all of it is written, and each write takes an entry of
+    // the send table: the few bytes that a pipe gives at a time would use it up first.
     fn refilled(self, window: &mut [u8]) -> Run
         requires { ⌜ Sound self ⌝ }
         ensures { λ r. ⌜ Sound r ⌝ }
@@ -673,6 +667,20 @@ impl Run {
         next.dice = rolled(self.dice);
         next
     }
+}
+
+fn are_free(frames: [Frame; 8]) -> bool
+    ensures { λ r. ⌜ r ≡ allBy isFree frames ⌝ }
+{
+    let mut i: usize = 0;
+    while i < 8 {
+        let frame = frames[i];
+        if frame.busy {
+            return false;
+        }
+        i += 1;
+    }
+    true
 }
 
 pub fn no_frame() -> Frame {
