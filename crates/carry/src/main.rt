@@ -2,11 +2,16 @@
 // buffer. Progress and a closing summary go to standard error.
 //
 //     carry [seed [loss per mille [repeat per mille [frame size [send arena [receive arena]]]]]] < FILE > COPY
+//
+// The last line on standard error is the verdict: `carry: whole and equal`, or another that begins with `carry: NOT`. The script `carry` at
+// the top of the repository goes by it.
 mod calls;
 mod credit;
+mod refusals;
 mod run;
 mod settings;
 mod tally;
+mod text;
 
 ghost use Prim.Native.Nat.{_≤_};
 ghost use Rattle.carry.specs.Sound.{Sound};
@@ -14,6 +19,7 @@ use run::Run;
 use settings::Asked;
 use settings::Settings;
 use tally::Tally;
+use text::say;
 
 fn main() {
     let what = settings::from_arguments();
@@ -38,25 +44,68 @@ fn arenas(set: Settings, sa: &mut [u8], ra: &mut [u8]) {
     carry(set, &mut sa[0..s], &mut ra[0..r]);
 }
 
-// The whole job. The input window is no larger than the send arena, so that each write of it finds room in the end.
+// The whole job.
 fn carry(set: Settings, sa: &mut [u8], ra: &mut [u8]) {
     let run = begin(set, sa, ra);
     let mut window = [0u8; 4096];
     let mut bytes = [0u8; 9600];
     let mut out = [0u8; 65536];
-    let w = least(sa.len(), 4096);
+    let w = piece(sa.len(), run.size);
     let ended = rounds(run, sa, ra, &mut window[0..w], &mut bytes, &mut out);
     summary(ended);
 }
 
-fn summary(ended: Run) {
+// The length of the input window. The chunk of which a part waits for the rest of its frame keeps its room: two windows and a frame fit into
+// the send arena, so that the next write finds room all the same.
+fn piece(room: usize, size: usize) -> usize
+    ensures { λ r. ⌜ r ≤ 4096 ⌝ }
+{
+    if room < size {
+        return 1;
+    }
+    let w = least((room - size) / 2, 4096);
+    if w == 0 {
+        return 1;
+    }
+    w
+}
+
+fn summary(ended: Run)
+    requires { ⌜ Sound ended ⌝ }
+{
     let send = ended.send;
     let recv = ended.recv;
-    let conn = ended.conn;
     let tally = ended.tally;
     let sender = send.fin_off;
     let receiver = recv.fin_off;
-    tally.summary(sender, receiver, conn, ended.is_done());
+    let whole = ended.is_done();
+    tally.table(ended.size, sender, receiver, whole);
+    if !whole {
+        stall(ended);
+    }
+    tally::tell(tally.verdict(sender, receiver, whole));
+}
+
+// What a run that did not come to its end waits for, and why in vain.
+fn stall(ended: Run)
+    requires { ⌜ Sound ended ⌝ }
+{
+    if ended.broken {
+        return;
+    }
+    let tally = ended.tally;
+    say(b"carry: STALLED: the reader waits for byte ");
+    text::number(ended.recv.off_front());
+    if ended.is_stuck() {
+        say(b", and all 64 entries of the receive table hold what lies behind it:\n");
+        say(b"carry: each frame that brings it is refused TableFull (6), for ever\n");
+    } else {
+        say(b", and no byte was handed out in a million rounds\n");
+    }
+    tally.refusals.tell_last();
+    say(
+        b"carry: docs/OPERATORS.md says how to choose the sizes: the receive arena at most 63 times the frame size\n",
+    );
 }
 
 fn begin(set: Settings, sa: &[u8], ra: &[u8]) -> Run

@@ -2,12 +2,23 @@
 //
 // Slot k of the channel holds one frame: its numbers in `frames[k]`, its bytes in the lent array from k * 1200 on. In each round a frame
 // in flight waits, or comes to the end, where it is lost or arrives; one that arrived may stay, to arrive again.
-ghost use Prim.Native.Nat.{_<_};
+//
+// Every frame ends at a multiple of the frame size or at the final size, as docs/OPERATORS.md advises: so with a receive arena of at most 63
+// frames the receive table never fills (crate channel, `ends-suffice`).
+//
+// No slot is held for ever. A frame whose report the sender refuses stays in flight and comes to the end again, where it may still arrive,
+// since no channel here loses all. And the byte that the reader waits for is always in flight or the first to be sent: a slot that its loss
+// frees is filled with it.
+ghost use mathlib.Core.Path.{_≡_};
+ghost use Prim.Native.Nat.{_<_, _≤_};
+ghost use Rattle.tables.specs.Checks.{allBy};
 ghost use Rattle.carry.specs.Sound.{Sound};
+ghost use Rattle.carry.specs.Verdict.{isFree, finished};
 use crate::calls;
 use crate::credit;
+use crate::refusals;
 use crate::tally::Tally;
-use crate::tally::say;
+use crate::text::say;
 use flowcontrol::FlowControl;
 use libc::STDIN_FILENO;
 use libc::STDOUT_FILENO;
@@ -40,9 +51,10 @@ pub struct Run {
     pub dice: u64,
     pub loss: u64,
     pub again: u64,
-    // The largest frame.
+    // The frame size.
     pub size: usize,
-    // The input window: `at` up to `have` is still to be written; `ended` after the input's end, `closed` after the write with the mark.
+    // The input window: it is read up to `have`; once it is full, or `ended` at the input's end, it is written from `at` on. `closed` after
+    // the write with the mark.
     pub at: usize,
     pub have: usize,
     pub ended: bool,
@@ -106,8 +118,13 @@ impl Run {
     }
 
     // Is there something left to do, and hope that it gets done?
-    pub fn goes_on(self) -> bool {
+    pub fn goes_on(self) -> bool
+        requires { ⌜ Sound self ⌝ }
+    {
         if self.broken {
+            return false;
+        }
+        if self.is_stuck() {
             return false;
         }
         if 1000000 < self.tally.idle {
@@ -116,27 +133,29 @@ impl Run {
         !self.is_done()
     }
 
+    // Has the receive table no entry left for the byte that the reader waits for? Then each frame that brings it is refused TableFull, now
+    // and ever after (crate channel, `stalled-run`).
+    pub fn is_stuck(self) -> bool
+        requires { ⌜ Sound self ⌝ }
+    {
+        if self.recv.count < 64 {
+            return false;
+        }
+        !self.recv.ready()
+    }
+
     // Has the receiver handed out everything, and is nothing in flight?
-    pub fn is_done(self) -> bool {
+    pub fn is_done(self) -> bool
+        ensures { λ r. ⌜ r ≡ finished self ⌝ }
+    {
         if self.broken {
             return false;
         }
-        if !self.recv.is_fin() {
-            return false;
+        if self.recv.is_fin() {
+            let frames = self.frames;
+            return are_free(frames);
         }
-        self.is_still()
-    }
-
-    fn is_still(self) -> bool {
-        let mut i: usize = 0;
-        while i < 8 {
-            let frame = self.frames[i];
-            if frame.busy {
-                return false;
-            }
-            i += 1;
-        }
-        true
+        false
     }
 
     fn counted(self) -> Run
@@ -151,48 +170,56 @@ impl Run {
 
     // ---- the input
 
-    // Reads into the window once all of it was written.
+    // Reads on until the window is full or the input has ended. A frame waits until all of it is written, and each write takes an entry of
+    // the send table: the few bytes that a pipe gives at a time would use it up first.
     fn refilled(self, window: &mut [u8]) -> Run
         requires { ⌜ Sound self ⌝ }
         ensures { λ r. ⌜ Sound r ⌝ }
     {
-        if self.at < self.have {
+        let have = self.have;
+        if self.is_filled(window) {
             return self;
         }
-        if self.ended {
+        if window.len() < have {
             return self;
         }
-        let got = libc::read(STDIN_FILENO, window);
+        let got = libc::read(STDIN_FILENO, &mut window[have..]);
         let mut next = self;
         if got < 0 {
             say(b"carry: standard input cannot be read\n");
             next.broken = true;
             return next;
         }
-        let n = io::count(got, window);
-        next.at = 0;
-        next.have = n;
+        let n = io::count(got, &window[have..]);
+        next.have = sum(have, n);
         next.ended = n == 0;
         next
     }
 
-    // Writes what the send buffer takes of the window, and at the input's end no bytes with the mark.
+    fn is_filled(self, window: &[u8]) -> bool {
+        if self.ended {
+            return true;
+        }
+        window.len() <= self.have
+    }
+
+    // Writes what the send buffer takes of a filled window, and at the input's end no bytes with the mark.
     fn fed(self, sa: &mut [u8], window: &[u8]) -> Run
         requires { ⌜ Sound self ⌝ }
         ensures { λ r. ⌜ Sound r ⌝ }
     {
         let at = self.at;
         let have = self.have;
+        if !self.is_filled(window) {
+            return self;
+        }
         if window.len() < have {
             return self;
         }
         if at < have {
             return self.written(sa, &window[at..have]);
         }
-        if self.ended {
-            return self.shut(sa);
-        }
-        self
+        self.shut(sa)
     }
 
     fn written(self, sa: &mut [u8], input: &[u8]) -> Run
@@ -205,7 +232,7 @@ impl Run {
         let mut next = self;
         next.send = buf;
         let CountAnswer::Count(n) = answer else {
-            return next.refused_count(answer);
+            return next.refused_count(refusals::WRITE, answer);
         };
         let k = n as usize;
         if input.len() < k {
@@ -213,7 +240,21 @@ impl Run {
         }
         let t = self.tally.took(&input[0..k]);
         next.tally = t;
+        next.passed(k)
+    }
+
+    // `k` bytes more of the window are written. One of which all is written is read into again.
+    fn passed(self, k: usize) -> Run
+        requires { ⌜ Sound self ⌝ }
+        ensures { λ r. ⌜ Sound r ⌝ }
+    {
+        let mut next = self;
         next.at = sum(self.at, k);
+        if next.at < self.have {
+            return next;
+        }
+        next.at = 0;
+        next.have = 0;
         next
     }
 
@@ -221,6 +262,9 @@ impl Run {
         requires { ⌜ Sound self ⌝ }
         ensures { λ r. ⌜ Sound r ⌝ }
     {
+        if !self.ended {
+            return self;
+        }
         if self.closed {
             return self;
         }
@@ -230,7 +274,7 @@ impl Run {
         let mut next = self;
         next.send = buf;
         let CountAnswer::Count(_) = answer else {
-            return next.refused_count(answer);
+            return next.refused_count(refusals::WRITE, answer);
         };
         next.closed = true;
         next
@@ -261,12 +305,16 @@ impl Run {
         if frame.busy {
             return self;
         }
+        let off = self.send.off_front();
+        let room = room_at(off, self.size);
+        if self.waits(off, room) {
+            return self;
+        }
         let a = slot * 1200;
-        let e = a + self.size;
+        let e = a + room;
         if bytes.len() < e {
             return self;
         }
-        let off = self.send.off_front();
         let out = calls::emit(self.send, sa, &mut bytes[a..e]);
         let answer = out.answer;
         let buf = out.buf;
@@ -279,6 +327,14 @@ impl Run {
             return next;
         }
         next.put(slot, off, n as usize, fin)
+    }
+
+    // Is a part of the frame from `off` on not written yet?
+    fn waits(self, off: u64, room: usize) -> bool {
+        if self.closed {
+            return false;
+        }
+        less(self.send.off_back(), off) < room as u64
     }
 
     // Need a frame of `n` bytes not be sent? With bytes it must, and without if it carries the mark for the first time.
@@ -349,7 +405,7 @@ impl Run {
     {
         let once = self.rolled();
         if per_mille(once.dice) < once.loss {
-            return once.lose(slot).lost_one();
+            return once.lose(slot);
         }
         once.deliver(slot, ra, bytes)
     }
@@ -386,7 +442,7 @@ impl Run {
         requires { ⌜ slot < 8 ⌝ }
         ensures { λ r. ⌜ Sound r ⌝ }
     {
-        let next = self.refused(why);
+        let next = self.refused(refusals::FRAME, why);
         next.lose(slot)
     }
 
@@ -406,7 +462,7 @@ impl Run {
         let mut next = self;
         next.send = buf;
         let CountAnswer::Count(_) = answer else {
-            return next.refused_count(answer);
+            return next.refused_count(refusals::ACK, answer);
         };
         next.settled(slot)
     }
@@ -440,9 +496,11 @@ impl Run {
         let mut next = self;
         next.send = buf;
         let CountAnswer::Count(_) = answer else {
-            return next.refused_count(answer);
+            return next.refused_count(refusals::LOSS, answer);
         };
         next.marked = without(self.marked, frame.fin);
+        let t = next.tally.lost_one();
+        next.tally = t;
         next.free(slot)
     }
 
@@ -528,7 +586,7 @@ impl Run {
         let Answer::Refused(why) = answer else {
             return next;
         };
-        next.refused(why)
+        next.refused(refusals::OTHER, why)
     }
 
     // Raises the limit where it is due: both windows are renewed, and the sender is granted the lesser of the two limits.
@@ -553,7 +611,7 @@ impl Run {
         let Answer::Refused(why) = answer else {
             return next;
         };
-        next.refused(why)
+        next.refused(refusals::OTHER, why)
     }
 
     // Does the receiver find the limit almost used up, or has the sender used it up where more could be had?
@@ -571,24 +629,24 @@ impl Run {
 
     // ---- counts and dice
 
-    fn refused(self, why: Refusal) -> Run
+    fn refused(self, call: usize, why: Refusal) -> Run
         requires { ⌜ Sound self ⌝ }
         ensures { λ r. ⌜ Sound r ⌝ }
     {
         let mut next = self;
-        let t = self.tally.refused(why);
+        let t = self.tally.refused(call, why);
         next.tally = t;
         next
     }
 
-    fn refused_count(self, answer: CountAnswer) -> Run
+    fn refused_count(self, call: usize, answer: CountAnswer) -> Run
         requires { ⌜ Sound self ⌝ }
         ensures { λ r. ⌜ Sound r ⌝ }
     {
         let CountAnswer::Refused(why) = answer else {
             return self;
         };
-        self.refused(why)
+        self.refused(call, why)
     }
 
     fn refused_emit(self, answer: EmitAnswer) -> Run
@@ -598,17 +656,7 @@ impl Run {
         let EmitAnswer::Refused(why) = answer else {
             return self;
         };
-        self.refused(why)
-    }
-
-    fn lost_one(self) -> Run
-        requires { ⌜ Sound self ⌝ }
-        ensures { λ r. ⌜ Sound r ⌝ }
-    {
-        let mut next = self;
-        let t = self.tally.lost_one();
-        next.tally = t;
-        next
+        self.refused(refusals::OTHER, why)
     }
 
     fn rolled(self) -> Run
@@ -619,6 +667,20 @@ impl Run {
         next.dice = rolled(self.dice);
         next
     }
+}
+
+fn are_free(frames: [Frame; 8]) -> bool
+    ensures { λ r. ⌜ r ≡ allBy isFree frames ⌝ }
+{
+    let mut i: usize = 0;
+    while i < 8 {
+        let frame = frames[i];
+        if frame.busy {
+            return false;
+        }
+        i += 1;
+    }
+    true
 }
 
 pub fn no_frame() -> Frame {
@@ -659,4 +721,26 @@ fn sum(a: usize, b: usize) -> usize {
         return a + b;
     }
     usize::MAX
+}
+
+// From `a` down by `b`, or 0.
+fn less(a: u64, b: u64) -> u64 {
+    if a < b {
+        return 0;
+    }
+    a - b
+}
+
+// How far it is from `off` to the next multiple of `size`.
+fn room_at(off: u64, size: usize) -> usize
+    ensures { λ r. ⌜ r ≤ size ⌝ }
+{
+    if size == 0 {
+        return 0;
+    }
+    let past = (off % size as u64) as usize;
+    if past < size {
+        return size - past;
+    }
+    size
 }

@@ -1,5 +1,8 @@
 // The program's arguments: at most six numbers, each with a default.
-use crate::tally::say;
+//
+// A frame is never longer than the receive arena, which could not take it, or a third of the send arena, which must hold a frame and two
+// windows of input. The receive arena that nobody asks for is the largest that never stalls: 63 frames (docs/OPERATORS.md).
+use crate::text::say;
 
 pub struct Settings {
     pub seed: u64,
@@ -52,22 +55,35 @@ fn sizes(seed: u64, loss: u64, again: u64) -> Asked {
         say(b"carry: the send arena must be a number from 1 to 65536\n");
         return Asked::Nothing;
     };
-    let Number::Is(recv_arena) = argument(6, 65536, 1, 65536) else {
+    let sent = refusal::least(frame, third(send_arena));
+    let Number::Is(recv_arena) = argument(6, roomy(sent), 1, 65536) else {
         say(b"carry: the receive arena must be a number from 1 to 65536\n");
         return Asked::Nothing;
     };
-    if recv_arena < frame {
-        say(b"carry: the frame size must not be above the receive arena\n");
-        return Asked::Nothing;
-    }
     Asked::For(Settings {
         seed,
         loss,
         again,
-        frame,
+        frame: refusal::least(sent, recv_arena),
         send_arena,
         recv_arena,
     })
+}
+
+// 63 times the frame size, and no arena is longer than 65,536.
+fn roomy(frame: u64) -> u64 {
+    if 1040 < frame {
+        return 65536;
+    }
+    frame * 63
+}
+
+// A third, and at least 1.
+fn third(n: u64) -> u64 {
+    if n < 3 {
+        return 1;
+    }
+    n / 3
 }
 
 // Argument `i`, or `other` where there is none; Bad where it is no number from `low` to `high`.

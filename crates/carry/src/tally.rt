@@ -1,7 +1,10 @@
-// What a run counts, and how it is told on standard error. A count that would pass 64 bits stands still.
+// What a run counts, how it is told on standard error, and the verdict. A count that would pass 64 bits stands still.
+ghost use mathlib.Core.Path.{_≡_};
 ghost use Prim.Native.Nat.{_<_};
-use flowcontrol::FlowControl;
-use libc::STDERR_FILENO;
+ghost use Rattle.carry.specs.Verdict.{sizesAgree, sumsAgree, equal, verdictOf};
+use crate::refusals::Refusals;
+use crate::text;
+use crate::text::say;
 use refusal::OptionU64;
 use refusal::Refusal;
 
@@ -11,21 +14,22 @@ pub struct Tally {
     pub taken_sum: u64,
     pub given: u64,
     pub given_sum: u64,
-    // Frames: put into the channel, lost by the dice, kept by the dice to arrive again.
+    // Frames: put into the channel, reported lost to the sender, kept by the dice to arrive again.
     pub sent: u64,
     pub lost: u64,
     pub repeated: u64,
-    // Refusals.
-    pub no_room: u64,
-    pub table_full: u64,
-    pub others: u64,
-    // Emits of the receive buffer that handed something out.
-    pub emits: u64,
+    pub refusals: Refusals,
     // Rounds, and those since a byte was last handed out.
     pub rounds: u64,
     pub idle: u64,
-    // What the last progress line said.
-    pub told: u64,
+    // The second in which progress was last told.
+    pub told: i64,
+}
+
+pub enum Verdict {
+    NotWhole,
+    NotEqual,
+    WholeAndEqual,
 }
 
 impl Tally {
@@ -38,29 +42,17 @@ impl Tally {
             sent: 0,
             lost: 0,
             repeated: 0,
-            no_room: 0,
-            table_full: 0,
-            others: 0,
-            emits: 0,
+            refusals: Refusals::none(),
             rounds: 0,
             idle: 0,
-            told: 0,
+            told: second(),
         }
     }
 
-    // One refusal more, by its number.
-    pub fn refused(self, why: Refusal) -> Tally {
+    pub fn refused(self, call: usize, why: Refusal) -> Tally {
         let mut t = self;
-        let number = why.number();
-        if number == 5 {
-            t.no_room = more(self.no_room, 1);
-            return t;
-        }
-        if number == 6 {
-            t.table_full = more(self.table_full, 1);
-            return t;
-        }
-        t.others = more(self.others, 1);
+        let r = self.refusals.one_more(call, why, self.rounds);
+        t.refusals = r;
         t
     }
 
@@ -75,7 +67,6 @@ impl Tally {
         let mut t = self;
         t.given = more(self.given, bytes.len() as u64);
         t.given_sum = summed(self.given_sum, bytes);
-        t.emits = more(self.emits, 1);
         t.idle = 0;
         t
     }
@@ -105,71 +96,94 @@ impl Tally {
         t
     }
 
-    // A line for each 65,536 bytes or more that were handed out since the last one.
+    // At most one line a second.
     pub fn progress(self) -> Tally {
-        if self.given < more(self.told, 65536) {
+        let now = second();
+        if now == self.told {
             return self;
         }
-        line(b"carry: bytes so far ", self.given);
+        say(b"carry: so far ");
+        text::number(self.given);
+        say(b" bytes in ");
+        text::number(self.rounds);
+        say(b" rounds\n");
         let mut t = self;
-        t.told = self.given;
+        t.told = now;
         t
     }
 
-    // The closing summary. `whole` says that the run came to its end.
-    pub fn summary(
-        self,
-        sender: OptionU64,
-        receiver: OptionU64,
-        connection: FlowControl,
-        whole: bool,
-    ) {
-        line(b"carry: bytes in ", self.taken);
-        line(b"carry: bytes out ", self.given);
-        line(b"carry: frames sent ", self.sent);
-        line(b"carry: frames lost ", self.lost);
-        line(b"carry: frames repeated ", self.repeated);
-        line(b"carry: refused NoRoom (5) ", self.no_room);
-        line(b"carry: refused TableFull (6) ", self.table_full);
-        line(b"carry: refused otherwise ", self.others);
-        line(b"carry: receive emits ", self.emits);
-        line(b"carry: rounds ", self.rounds);
-        line(b"carry: connection consumed ", connection.consumed());
-        line(b"carry: connection limit ", connection.max_data());
-        size_line(b"carry: final size of the sender ", sender);
-        size_line(b"carry: final size of the receiver ", receiver);
-        self.verdict(sender, receiver, whole);
+    // The closing table. `frame` is the frame size; `whole` says that the stream came to its end.
+    pub fn table(self, frame: usize, sender: OptionU64, receiver: OptionU64, whole: bool) {
+        text::line(b"  bytes read                      ", self.taken);
+        text::line(b"  bytes handed out                ", self.given);
+        text::line(b"  frame size                      ", frame as u64);
+        text::line(b"  frames sent                     ", self.sent);
+        text::line(b"  frames lost                     ", self.lost);
+        text::line(b"  frames repeated                 ", self.repeated);
+        self.refusals.table();
+        text::line(b"  rounds                          ", self.rounds);
+        size(b"  final size at the sender        ", sender);
+        size(b"  final size at the receiver      ", receiver);
+        text::answer(b"  the stream came to its end      ", whole);
+        text::answer(
+            b"  final sizes are the bytes       ",
+            self.sizes(sender, receiver),
+        );
+        text::answer(b"  checksums are the same          ", self.sums());
     }
 
-    fn verdict(self, sender: OptionU64, receiver: OptionU64, whole: bool) {
-        if !whole {
-            say(b"carry: NOT WHOLE: the run ended before the stream did\n");
-            return;
+    // The verdict on a run. `whole` says that the stream came to its end.
+    pub fn verdict(self, sender: OptionU64, receiver: OptionU64, whole: bool) -> Verdict
+        ensures { λ r. ⌜ r ≡ verdictOf whole (equal self sender receiver) ⌝ }
+    {
+        if whole {
+            if self.agree(sender, receiver) {
+                return Verdict::WholeAndEqual;
+            }
+            return Verdict::NotEqual;
         }
-        if !self.agree(sender, receiver) {
-            say(b"carry: NOT EQUAL\n");
-            return;
-        }
-        say(b"carry: whole and equal\n");
+        Verdict::NotWhole
     }
 
-    // Are both final sizes known, and the number of bytes on either side, and are the checksums the same?
-    fn agree(self, sender: OptionU64, receiver: OptionU64) -> bool {
-        if !sender.is_at(self.taken) {
+    // Is each final size known, and the number of bytes on its side, are the two the same, and the checksums?
+    fn agree(self, sender: OptionU64, receiver: OptionU64) -> bool
+        ensures { λ r. ⌜ r ≡ equal self sender receiver ⌝ }
+    {
+        if self.sizes(sender, receiver) {
+            return self.sums();
+        }
+        false
+    }
+
+    fn sizes(self, sender: OptionU64, receiver: OptionU64) -> bool
+        ensures { λ r. ⌜ r ≡ sizesAgree self sender receiver ⌝ }
+    {
+        if sender.is_at(self.taken) {
+            if receiver.is_at(self.given) {
+                return self.taken == self.given;
+            }
             return false;
         }
-        if !receiver.is_at(self.given) {
-            return false;
-        }
-        if self.taken != self.given {
-            return false;
-        }
+        false
+    }
+
+    fn sums(self) -> bool
+        ensures { λ r. ⌜ r ≡ sumsAgree self ⌝ }
+    {
         self.taken_sum == self.given_sum
     }
 }
 
+pub fn tell(verdict: Verdict) {
+    match verdict {
+        Verdict::NotWhole => say(b"carry: NOT WHOLE\n"),
+        Verdict::NotEqual => say(b"carry: NOT EQUAL\n"),
+        Verdict::WholeAndEqual => say(b"carry: whole and equal\n"),
+    }
+}
+
 // The sum, or the largest number.
-fn more(n: u64, k: u64) -> u64 {
+pub fn more(n: u64, k: u64) -> u64 {
     if n < u64::MAX - k {
         return n + k;
     }
@@ -197,21 +211,16 @@ fn wide(byte: u8) -> u64
     byte as u64
 }
 
-pub fn say(text: &[u8]) {
-    io::write_all(STDERR_FILENO, text);
-}
-
-fn line(text: &[u8], n: u64) {
-    say(text);
-    io::print_decimal(STDERR_FILENO, n);
-    say(b"\n");
-}
-
-fn size_line(text: &[u8], size: OptionU64) {
+fn size(what: &[u8], size: OptionU64) {
     let OptionU64::Some(n) = size else {
-        say(text);
-        say(b"unknown\n");
+        text::unknown(what);
         return;
     };
-    line(text, n);
+    text::line(what, n);
+}
+
+// The clock's second.
+fn second() -> i64 {
+    let mut t: i64 = 0;
+    libc::time(&mut t)
 }
