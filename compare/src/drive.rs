@@ -1,7 +1,7 @@
 //! Holds the port beside quiche: `drive PORT ORACLE SECONDS SEED`.
 //!
 //! Both programs speak the call script. Each call goes to the port first. What the port refuses by a refusal that quiche does
-//! not have, and what stands in a row of docs/DIFFERENCES.md, does not reach quiche: it is held to document 01's rules and to the
+//! not have, and what stands in a row of docs/DIFFERENCES.md, does not reach quiche: it is held to the rules and to the
 //! row (owed.rs). Every other answer, and the whole state after it, must be the same text. First every short sequence over small
 //! alphabets, then random sequences around every boundary for the time given. A difference in no row is shrunk, printed, and the
 //! exit status is 1.
@@ -95,7 +95,7 @@ impl Compare {
             run.arena = line.rsplit(' ').next().unwrap().parse().unwrap_or(0);
         }
         if said.is_empty() {
-            return run.ends("the program has ended".into(), "document 01", "an answer".into());
+            return run.ends("the program has ended".into(), "docs/RULES.md", "an answer".into());
         }
         let owed = owed::owed(&line, &run.before, run.arena);
         if owed != refusal(&said) {
@@ -104,7 +104,7 @@ impl Compare {
             } else {
                 format!("no {owed}")
             };
-            return run.ends(port, "document 01", owed);
+            return run.ends(port, "docs/RULES.md", owed);
         }
         if let Some((row, goes_on)) = row(&line, &run.before, &said, &after, &run.form) {
             *self.rows.entry(row).or_default() += 1;
@@ -119,7 +119,7 @@ impl Compare {
         if added(&said) {
             *self.refused.entry(format!("{name} {said}")).or_default() += 1;
             let kept = format!("{said} | {}", run.before);
-            return port == kept || run.ends(port, "document 01", kept);
+            return port == kept || run.ends(port, "docs/RULES.md", kept);
         }
         self.oracle.tell(&line);
         run.asked.push((run.done.len(), port));

@@ -1,6 +1,6 @@
 //! The oracle: quiche's own buffers under the call script.
 //!
-//! A call that quiche answers with an error prints document 01's number; one that panics prints `panic` and the object is
+//! A call that quiche answers with an error prints the refusal's number; one that panics prints `panic` and the object is
 //! gone until it is created again.
 
 use std::panic::catch_unwind;

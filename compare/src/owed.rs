@@ -1,4 +1,4 @@
-//! What the port owes where quiche cannot say it, read off the text of the state before the call: which refusal document 01 lays
+//! What the port owes where quiche cannot say it, read off the text of the state before the call: which refusal docs/RULES.md lays
 //! down, and what a row of docs/DIFFERENCES.md has in its column "here".
 //!
 //! This is a second reading of the rules, in whole numbers and over lists, without the code's tables and steps: a refusal that comes

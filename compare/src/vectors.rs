@@ -1,10 +1,10 @@
 //! Writes the stored list of the program `vectors`: `vectors ORACLE SEQUENCES SEED DATE`.
 //!
-//! Every call goes to quiche, and the list has quiche's line for it. Whether document 01 asks for another is decided by the rules of
+//! Every call goes to quiche, and the list has quiche's line for it. Whether docs/RULES.md asks for another is decided by the rules of
 //! owed.rs, over quiche's own state before the call. Our code has no part in it.
 //!
-//! After a call that document 01 answers otherwise quiche is started afresh and given the sequence again without that call, so
-//! that the two go on from the same state. Where document 01 asks for another state than quiche can have, the sequence ends.
+//! After a call that docs/RULES.md answers otherwise quiche is started afresh and given the sequence again without that call, so
+//! that the two go on from the same state. Where docs/RULES.md asks for another state than quiche can have, the sequence ends.
 
 mod calls;
 mod owed;
@@ -35,7 +35,7 @@ const ROWS: [u32; 30] = [
     1, 2, 3, 4, 5, 6, 7, 8, 9, 10, 11, 12, 13, 14, 20, 21, 22, 23, 24, 25, 26, 27, 28, 29, 30, 31, 32, 40, 41, 42,
 ];
 
-/// A line that document 01 asks for instead of quiche's.
+/// A line that docs/RULES.md asks for instead of quiche's.
 struct Ruled {
     row: u32,
     line: String,
@@ -138,7 +138,7 @@ impl List {
         }
     }
 
-    /// A call and its lines in the list. `both` names a row of "Rust against RFC 9000", in which quiche's line is document 01's too.
+    /// A call and its lines in the list. `both` names a row of "The rules against RFC 9000", in which quiche's line is the rules' too.
     fn call(&mut self, line: &str, both: Option<u32>) {
         assert!(!self.apart, "{line}: quiche's state is another since the call before");
         let (object, name) = line.split(' ').next().unwrap().split_once('.').unwrap();
@@ -192,7 +192,7 @@ impl List {
         }
     }
 
-    /// What document 01 asks where quiche answers otherwise.
+    /// What docs/RULES.md asks where quiche answers otherwise.
     fn ruled(&mut self, line: &str, before: &str, quiche: &str) -> Option<Ruled> {
         let name = line.split(' ').next().unwrap();
         let (said, after) = quiche.split_once(" | ").unwrap();
@@ -228,7 +228,7 @@ impl List {
     }
 
     /// The sequences of a file. A call may be repeated: `65 * CALL` makes it for i from 0 to 64, with `{a*i+b}` in it reckoned. The last
-    /// call of a sequence whose label begins `D-4` is one where quiche and document 01 agree.
+    /// call of a sequence whose label begins `D-4` is one where quiche and docs/RULES.md agree.
     fn file(&mut self, text: &str) {
         let lines: Vec<&str> = text.lines().collect();
         let mut label = String::new();
@@ -322,14 +322,14 @@ fn head(list: &List, seed: &str, date: &str) -> String {
 #
 #   CALL
 #   < ANSWER | STATE          what quiche answers, and its state after it (`panic | -`: it panics, or overflows)
-#   ! D-nn ANSWER | STATE     what document 01 asks instead, with the row of docs/DIFFERENCES.md; in the rows D-40 to D-42 the same text,
-#                             since there the base follows the Rust
+#   ! D-nn ANSWER | STATE     what docs/RULES.md asks instead, with the row of docs/DIFFERENCES.md; in the rows D-40 to D-43 the same text,
+#                             since there we answer as the Rust does, and RFC 9000 says otherwise
 #
 # Made on {date} by `compare/vectors {seed}`, after `compare/build`, from quiche 0.30.0's own files, compiled unchanged with overflow checks
 # on. The first sequences are those of compare/sequences.txt; the others are random, from the seed {seed}. The lines that begin with `<` are
 # quiche's own. Those that begin with `!` were reckoned from quiche's state before the call, by the rules that compare/src/owed.rs has from
-# document 01; no line was taken from the code that the program tries. After a call with such a line quiche
-# was given the sequence again without it, so both go on from the same state; where document 01 asks for a state that quiche cannot
+# docs/RULES.md; no line was taken from the code that the program tries. After a call with such a line quiche
+# was given the sequence again without it, so both go on from the same state; where docs/RULES.md asks for a state that quiche cannot
 # have, the sequence ends.
 #
 # D-33 is not shown: that quiche's constructor takes three numbers is no call of the script, whose `r.new` gives it limit and window alike.
