@@ -23,6 +23,10 @@ use Rattle.settled.proofs.Ruled.{by-computing}
 abbrev new : Recv
 new = viewOf (created 12 24 16 .buf)
 
+-- the same with limits of 40 and an arena of 8 bytes
+abbrev eight : Recv
+eight = viewOf (created 40 40 8 .buf)
+
 -- 5..10 came; then 0..7, so that 0..5 and 5..10 are kept; then four bytes were handed out
 abbrev later : Recv
 later = viewOf (written new 16 5 5 false .buf)
@@ -76,6 +80,9 @@ calls =
     -- write: a mark below what came let through; a frame above the limit let through
     ∷ (plain (written later 16 0 7 true) never (0 ∷ []))
     ∷ (plain (written new 16 5 8 false) never (0 ∷ []))
+    -- write, into an arena of 8 bytes: the last place refused; one byte too many let through
+    ∷ (plain (written eight 8 0 8 false) never (5 ∷ []))
+    ∷ (plain (written eight 8 0 9 false) never (0 ∷ []))
     -- write, of a frame of no bytes with the mark: F not set; the reader not told, no empty chunk being left
     ∷ (state marked never (0 ∷ 10 ∷ 0 ∷ 10 ∷ 0 ∷ 0 ∷ []))
     ∷ (state marked never (0 ∷ 10 ∷ 0 ∷ 10 ∷ []))
