@@ -19,7 +19,7 @@ use Rattle.ranges.specs.State.{ranges, setOf, zeroRange, upto}
 
 -- ---- creation
 
--- a capacity of 1 to 64, else BadSetup; beside that stands the empty set of capacity 1
+-- a capacity of 1 to 64, else BadSetup; the set that comes back then is empty and has capacity 1
 abbrev pub created : ℕ → Outcome
 created cap =
     cond (leb 1 cap && leb cap 64) (record { answer = Done; set = setOf cap [] })

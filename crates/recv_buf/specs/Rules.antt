@@ -68,7 +68,7 @@ newRecv A limit maximum =
 abbrev pub badNumbers : ℕ → ℕ → ℕ → Bool
 badNumbers limit maximum A = eqb A 0 || ltb 65536 A || ltb M limit || ltb M maximum
 
--- `new`. Beside a refusal stands a dead buffer: it is for an arena of no bytes, so every call that takes an arena answers BadSetup
+-- `new`. With a refusal comes a dead buffer: it is for an arena of no bytes, so every call that takes an arena answers BadSetup
 unfoldable pub created : ℕ → ℕ → ℕ → Outcome
 created limit maximum A =
     cond (badNumbers limit maximum A) (record { answer = Refused BadSetup; buf = bufOf (newRecv 0 0 0) })

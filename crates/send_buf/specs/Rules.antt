@@ -172,7 +172,7 @@ newSend A limit = record {
 abbrev pub badNumbers : ℕ → ℕ → Bool
 badNumbers limit A = eqb A 0 || ltb 65536 A || ltb M limit
 
--- `new`. Beside a refusal stands a dead buffer: it is for an arena of no bytes, so every call that takes an arena answers BadSetup
+-- `new`. With a refusal comes a dead buffer: it is for an arena of no bytes, so every call that takes an arena answers BadSetup
 unfoldable pub created : ℕ → ℕ → Outcome
 created limit A =
     cond (badNumbers limit A) (record { answer = Refused BadSetup; buf = bufOf (newSend 0 0) })

@@ -45,7 +45,7 @@ pub struct VkRecvBufOut {
     pub answer: VkAnswer,
 }
 
-// A buffer that saw nothing, for an arena of the length of this one. BadSetup; beside that stands a buffer that refuses every arena.
+// A buffer that saw nothing, for an arena of the length of this one. BadSetup; the buffer that comes back then refuses every arena.
 #[no_mangle]
 pub extern "C" fn vk_recv_buf_new(max_data: u64, max_window: u64, arena: &[u8]) -> VkRecvBufOut
     ensures { λ r. ⌜ r ≡ recvOut (created «max_data» «max_window» (length (now (arena .entry)))) ⌝ }

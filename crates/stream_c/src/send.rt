@@ -50,7 +50,7 @@ pub struct VkSendBufOut {
     pub answer: VkAnswer,
 }
 
-// A buffer with nothing written, for an arena of the length of this one. BadSetup; beside that stands a buffer that refuses every arena.
+// A buffer with nothing written, for an arena of the length of this one. BadSetup; the buffer that comes back then refuses every arena.
 #[no_mangle]
 pub extern "C" fn vk_send_buf_new(max_data: u64, arena: &[u8]) -> VkSendBufOut
     ensures { λ r. ⌜ r ≡ sendOut (created «max_data» (length (now (arena .entry)))) ⌝ }

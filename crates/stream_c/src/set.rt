@@ -26,7 +26,7 @@ pub struct VkRangeOut {
     pub known: bool,
 }
 
-// The empty set. BadSetup; beside that stands an empty set of capacity 1.
+// The empty set. BadSetup; the set that comes back then is empty and has capacity 1.
 #[no_mangle]
 pub extern "C" fn vk_range_set_new(capacity: usize) -> VkRangeSetOut
     ensures { λ r. ⌜ r ≡ setOut (created capacity) ⌝ }

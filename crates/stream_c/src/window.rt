@@ -16,7 +16,7 @@ pub struct VkFlowControlOut {
     pub answer: VkAnswer,
 }
 
-// BadSetup; beside that stands a window of nothing.
+// BadSetup; the record that comes back then grants nothing.
 #[no_mangle]
 pub extern "C" fn vk_flow_control_new(
     max_data: u64,
