@@ -211,6 +211,8 @@ sets =
     -- len: the numbers in the ranges; none
     ∷ ((length (ranges two) ∷ []) never (4 ∷ []))
     ∷ ((length (ranges two) ∷ []) never (0 ∷ []))
+    -- len: the capacity
+    ∷ ((length (ranges (setOf 3 (upto 10 12 ∷ []))) ∷ []) never (3 ∷ []))
     -- contains: an end; not a start
     ∷ (bit (set.memberOf 12 (ranges two)) never (1 ∷ []))
     ∷ (bit (set.memberOf 20 (ranges two)) never (0 ∷ []))
@@ -223,6 +225,9 @@ sets =
     -- eq: equal by its first range; an empty set taken for 0..0
     ∷ (bit (set.isSingle (upto 10 12) (ranges two)) never (1 ∷ []))
     ∷ (bit (set.isSingle (upto 0 0) []) never (1 ∷ []))
+    -- eq: equal by one end
+    ∷ (bit (set.isSingle (upto 10 12) (upto 10 13 ∷ [])) never (1 ∷ []))
+    ∷ (bit (set.isSingle (upto 10 12) (upto 9 12 ∷ [])) never (1 ∷ []))
     -- insert: what touches is not joined; the new range goes in place of the lowest
     ∷ (setSaid (set.inserted two (upto 12 20)) never (0 ∷ 12 ∷ 20 ∷ 20 ∷ 22 ∷ []))
     ∷ (setSaid (set.inserted two (upto 0 1)) never (0 ∷ 10 ∷ 12 ∷ 20 ∷ 22 ∷ []))

@@ -83,6 +83,8 @@ calls =
     -- emit: always "0, not ended"; ended before the end is reached
     ∷ (bytes (emitted ten 16 4) never (0 ∷ 0 ∷ 0 ∷ []))
     ∷ (bytes (emitted closed 16 4) never (0 ∷ 4 ∷ 1 ∷ []))
+    -- emit, of 4 bytes and 6 written apart: it stops at the first chunk's end
+    ∷ (bytes (emitted (viewOf (written (viewOf (written new 16 4 false .buf)) 16 6 false .buf)) 16 10) never (0 ∷ 4 ∷ 0 ∷ []))
     -- emit, its output: nothing copied; copied from the front of the stream
     ∷ (emittedOut four (1 ∷ 2 ∷ 3 ∷ 4 ∷ 5 ∷ 6 ∷ 7 ∷ 8 ∷ 9 ∷ 10 ∷ replicate 6 0) (0 ∷ 0 ∷ []) never (0 ∷ 0 ∷ []))
     ∷ (emittedOut four (1 ∷ 2 ∷ 3 ∷ 4 ∷ 5 ∷ 6 ∷ 7 ∷ 8 ∷ 9 ∷ 10 ∷ replicate 6 0) (0 ∷ 0 ∷ []) never (1 ∷ 2 ∷ []))
