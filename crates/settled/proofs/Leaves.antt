@@ -92,9 +92,16 @@ arenas =
     -- keep: one place off; nothing kept
     (kept places 5 (1 ∷ 2 ∷ []) never (1 ∷ 2 ∷ 7 ∷ []))
     ∷ (kept places 5 (1 ∷ 2 ∷ []) never places)
+    -- its second stretch one place off, or from the wrong part of the bytes; more bytes than places, and the first one stays
+    ∷ (kept places 5 (1 ∷ 2 ∷ []) never (9 ∷ 2 ∷ 1 ∷ []))
+    ∷ (kept places 5 (1 ∷ 2 ∷ []) never (1 ∷ 8 ∷ 1 ∷ []))
+    ∷ (kept places 5 (1 ∷ 2 ∷ 3 ∷ 4 ∷ []) never (2 ∷ 3 ∷ 1 ∷ []))
     -- hand: from the front in place of the offset; the output left
     ∷ (handed places 5 (0 ∷ 0 ∷ []) never (9 ∷ 8 ∷ []))
     ∷ (handed places 5 (0 ∷ 0 ∷ []) never (0 ∷ 0 ∷ []))
+    -- its second stretch one place off, or the first part again
+    ∷ (handed places 5 (0 ∷ 0 ∷ []) never (7 ∷ 8 ∷ []))
+    ∷ (handed places 5 (0 ∷ 0 ∷ []) never (7 ∷ 7 ∷ []))
     ∷ []
 
 -- ---- range_buf: a chunk of 6 bytes at 10, 2 of them consumed

@@ -4,14 +4,14 @@ use native.Mathlib.Omega.{arith}
 use borrow.Author.Needs.{needs}
 use Prim.Native.Nat.{ℕ, _+_, _-_, _%_, _≤_, _<_}
 use native.Mathlib.Nat.{add-zero, add-assoc}
-use lib.ListN.{length, take, length-set, getD}
-use lib.Seq.{take-all}
+use lib.ListN.{length, take}
 use Rattle.arena.specs.Rules.{held}
-use Rattle.arena.proofs.Laws.{held-none, handed-held}
 use Rattle.arena.proofs.Places.{follows}
-use Rattle.arena.proofs.Loops.{hand-turn, no-places-hand}
+use Rattle.arena.proofs.Loops.{less, part-length, put-length, hand-turn, no-places-hand}
 use Rattle.arena.proofs.hand.Statement.{statement}
 use Rattle.arena.proofs.hand.Tie as tie
+use lib.Seq.{take-all}
+use Rattle.arena.proofs.Laws.{held-none, handed-held}
 
 abbrev Inv-loop : tie.InvT-loop
 Inv-loop arena off out₀ all at₀ i₀ out at i =
@@ -37,32 +37,82 @@ loop-holds c =
     let a = c .before .before .before .before .args in
     (omega arith, refl, c .place .ensures .1, rw (add-zero (a .off)) (c .place .ensures .0), sym (held-none (a .arena .now) (a .off)))
 
-shared-slice-read-out : tie.Need-shared-slice-read-out Inv-loop μ-loop
-shared-slice-read-out c = search needs
+sub-stretch : tie.Need-sub-stretch Inv-loop μ-loop
+sub-stretch c = search needs
 
-slice-write-out : tie.Need-slice-write-out Inv-loop μ-loop
-slice-write-out c = search needs
+sub-stretch-2 : tie.Need-sub-stretch-2 Inv-loop μ-loop
+sub-stretch-2 c = search needs
+
+stretch-requires : tie.Need-stretch-requires Inv-loop μ-loop
+stretch-requires c κs = search needs
+
+add-copy : tie.Need-add-copy Inv-loop μ-loop
+add-copy c = search needs
+
+sub-copy : tie.Need-sub-copy Inv-loop μ-loop
+sub-copy c = search needs
+
+part-copy-start : tie.Need-part-copy-start Inv-loop μ-loop
+part-copy-start c = search needs
+
+part-copy-end : tie.Need-part-copy-end Inv-loop μ-loop
+part-copy-end c = search needs
+
+add-copy-2 : tie.Need-add-copy-2 Inv-loop μ-loop
+add-copy-2 c = search needs
+
+sub-copy-2 : tie.Need-sub-copy-2 Inv-loop μ-loop
+sub-copy-2 c = search needs
+
+part-copy-start-2 : tie.Need-part-copy-start-2 Inv-loop μ-loop
+part-copy-start-2 c = search needs
+
+part-copy-end-2 : tie.Need-part-copy-end-2 Inv-loop μ-loop
+part-copy-end-2 c = search needs
+
+copy-requires : tie.Need-copy-requires Inv-loop μ-loop
+copy-requires c κs =
+    let s = c .before .before in
+    let n = s .stretch .result in
+    let fit = s .stretch .ensures in
+    let l = s .before .before .loop in
+    let a = s .before .before .before .before .before .before .before .args in
+    let room : l .at + n ≤ length (a .arena .now) = omega (arith, fit, l .inv .2) in
+    let left : l .i + n ≤ length (l .out) = omega (arith, fit, l .inv .0, l .inv .1) in
+    part-length (l .out) (l .i) n left ∙ sym (part-length (a .arena .now) (l .at) n room)
+
+add-following : tie.Need-add-following Inv-loop μ-loop
+add-following c = search needs
 
 following-requires : tie.Need-following-requires Inv-loop μ-loop
-following-requires c κs = search needs
+following-requires c κs = (search needs, search needs)
 
 add-i : tie.Need-add-i Inv-loop μ-loop
 add-i c = search needs
 
 loop-less : tie.Need-loop-less Inv-loop μ-loop
-loop-less c = search needs
+loop-less c =
+    let s = c .before .before .before .before .before .before in
+    let l = s .before .before .loop in
+    let same = sym (l .inv .1) in
+    less _ _ (l .i) (l .at) (s .stretch .result) (rw same (s .stretch .ensures)) (rw same (s .before .loop-test .taken)) (l .inv .2)
 
 loop-again : tie.Need-loop-again Inv-loop μ-loop
 loop-again c =
-    let l = c .before .before .before .loop in
-    let a = c .before .before .before .before .before .before .before .before .args in
-    let off = a .off in
-    let all = length (a .arena .now) in (
-      search needs,
-      length-set (l .out) (l .i) (getD (a .arena .now) (l .at) 0) ∙ l .inv .1,
+    let s = c .before .before .before .before .before .before in
+    let n = s .stretch .result in
+    let fit = s .stretch .ensures in
+    let l = s .before .before .loop in
+    let a = s .before .before .before .before .before .before .before .args in
+    let k = c .before .before .before .copy in
+    let all = length (a .arena .now) in
+    let room : l .at + n ≤ length (a .arena .now) = omega (arith, fit, l .inv .2) in
+    let left : l .i + n ≤ length (l .out) = omega (arith, fit, l .inv .0, l .inv .1) in (
+      omega (arith, left, l .inv .1),
+      put-length (l .i) n (l .out) (k .last .0) left (ap length (k .ensures) ∙ part-length (a .arena .now) (l .at) n room) ∙ l .inv .1,
       c .following .ensures .1,
-      c .following .ensures .0 ∙ follows all (off + l .i) (l .at) (l .inv .3) ∙ ap (λ (n : ℕ). n % all) (add-assoc off (l .i) 1),
-      hand-turn (a .arena .now) off (l .i) (l .at) (l .out) (l .inv .3) (search needs) (l .inv .4),
+      c .following .ensures .0 ∙ follows all (a .off + l .i) (l .at) n (l .inv .3) ∙ ap (λ (m : ℕ). m % all) (add-assoc (a .off) (l .i) n),
+      hand-turn (a .arena .now) (a .off) (l .i) (l .at) n (l .out) (k .last .0) (l .inv .3) room left (k .ensures) (l .inv .4),
     )
 
 same-length : tie.Need-same-length Inv-loop μ-loop
@@ -87,8 +137,19 @@ hand-spec =
     returns
     place-requires
     loop-holds
-    shared-slice-read-out
-    slice-write-out
+    sub-stretch
+    sub-stretch-2
+    stretch-requires
+    add-copy
+    sub-copy
+    part-copy-start
+    part-copy-end
+    add-copy-2
+    sub-copy-2
+    part-copy-start-2
+    part-copy-end-2
+    copy-requires
+    add-following
     following-requires
     add-i
     loop-less
