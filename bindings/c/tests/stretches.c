@@ -1,9 +1,9 @@
 /* stretches.c: the compiled copy between a caller's bytes and the ring, over every cut into stretches.
  *
- * For each arena of 1 to 80 bytes, and some longer ones around the powers of two, from each place on (of the longer ones: from places near
- * both ends), for each number of bytes that fits (likewise): the byte of stream offset o must lie at place o mod A (docs/RULES.md, 1.3), and
- * no other place may change; what is handed out must be the bytes, and nothing before or behind it may change. The proofs are about the
- * code; this is about the vector code that the compiler makes of it.
+ * For each arena of 1 to 80 bytes and some longer ones, from each place on (of the longer ones: near both ends and in the middle), for each
+ * number of bytes that fits (likewise): the byte of stream offset o must lie at place o mod A (docs/RULES.md, 1.3), and no other place may
+ * change; what is handed out must be those bytes, and nothing before or behind it may change. The proofs are about the code; this is about the
+ * vector code that the compiler makes of it.
  */
 #define _DEFAULT_SOURCE
 #include "testing.h"
@@ -76,8 +76,9 @@ static void from_place(size_t A, size_t from) {
 }
 
 static void arena_of(size_t A) {
+    size_t near = A <= 256 ? 33 : 2;
     for (size_t from = 0; from < A; from++) {
-        if (A > SMALL && from > 33 && from < A - 33 && from != A / 2) continue;
+        if (A > SMALL && from >= near && from != A / 2 && from < A - near) continue;
         from_place(A, from);
     }
 }

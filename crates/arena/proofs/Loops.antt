@@ -23,6 +23,11 @@ part-length src i n h =
     let d : length (drop i src) ≡ length src - i = length-drop i src in
     ap (λ (m : ℕ). length (take m (drop i src))) z ∙ length-take-le n (drop i src) (omega arith)
 
+-- two parts of n are alike
+pub alike : (xs ys : List ℕ) (p q n : ℕ) → p + n ≤ length xs → q + n ≤ length ys
+    → length (take (p + n - p) (drop p xs)) ≡ length (take (q + n - q) (drop q ys))
+alike xs ys p q n h k = part-length xs p n h ∙ sym (part-length ys q n k)
+
 pub put-length : (p n : ℕ) (xs ys : List ℕ) → p + n ≤ length xs → length ys ≡ n → length (putMid p (p + n - p) xs ys) ≡ length xs
 put-length p n xs ys h e = ap length (put-sets p (p + n - p) xs ys (omega arith) (omega arith)) ∙ length-sets xs p ys
 

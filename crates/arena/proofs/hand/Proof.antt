@@ -7,7 +7,7 @@ use native.Mathlib.Nat.{add-zero, add-assoc}
 use lib.ListN.{length, take}
 use Rattle.arena.specs.Rules.{held}
 use Rattle.arena.proofs.Places.{follows}
-use Rattle.arena.proofs.Loops.{less, part-length, put-length, hand-turn, no-places-hand}
+use Rattle.arena.proofs.Loops.{alike, less, part-length, put-length, hand-turn, no-places-hand}
 use Rattle.arena.proofs.hand.Statement.{statement}
 use Rattle.arena.proofs.hand.Tie as tie
 use lib.Seq.{take-all}
@@ -73,13 +73,9 @@ part-copy-end-2 c = search needs
 copy-requires : tie.Need-copy-requires Inv-loop μ-loop
 copy-requires c κs =
     let s = c .before .before in
-    let n = s .stretch .result in
     let fit = s .stretch .ensures in
     let l = s .before .before .loop in
-    let a = s .before .before .before .before .before .before .before .args in
-    let room : l .at + n ≤ length (a .arena .now) = omega (arith, fit, l .inv .2) in
-    let left : l .i + n ≤ length (l .out) = omega (arith, fit, l .inv .0, l .inv .1) in
-    part-length (l .out) (l .i) n left ∙ sym (part-length (a .arena .now) (l .at) n room)
+    alike _ _ _ _ (s .stretch .result) (omega (arith, fit, l .inv .0, l .inv .1)) (omega (arith, fit, l .inv .2))
 
 add-following : tie.Need-add-following Inv-loop μ-loop
 add-following c = search needs
@@ -109,7 +105,7 @@ loop-again c =
     let room : l .at + n ≤ length (a .arena .now) = omega (arith, fit, l .inv .2) in
     let left : l .i + n ≤ length (l .out) = omega (arith, fit, l .inv .0, l .inv .1) in (
       omega (arith, left, l .inv .1),
-      put-length (l .i) n (l .out) (k .last .0) left (ap length (k .ensures) ∙ part-length (a .arena .now) (l .at) n room) ∙ l .inv .1,
+      put-length (l .i) n (l .out) (k .last .0) left (ap length (k .ensures) ∙ part-length _ _ n (omega (arith, fit, l .inv .2))) ∙ l .inv .1,
       c .following .ensures .1,
       c .following .ensures .0 ∙ follows all (a .off + l .i) (l .at) n (l .inv .3) ∙ ap (λ (m : ℕ). m % all) (add-assoc (a .off) (l .i) n),
       hand-turn (a .arena .now) (a .off) (l .i) (l .at) n (l .out) (k .last .0) (l .inv .3) room left (k .ensures) (l .inv .4),

@@ -7,7 +7,7 @@ use native.Mathlib.Nat.{add-zero, add-assoc}
 use lib.ListN.{length, drop}
 use Rattle.arena.specs.Rules.{kept}
 use Rattle.arena.proofs.Places.{follows}
-use Rattle.arena.proofs.Loops.{less, part-length, put-length, keep-turn, keep-end, no-places-keep}
+use Rattle.arena.proofs.Loops.{alike, less, part-length, put-length, keep-turn, keep-end, no-places-keep}
 use Rattle.arena.proofs.keep.Statement.{statement}
 use Rattle.arena.proofs.keep.Tie as tie
 
@@ -71,13 +71,9 @@ part-copy-end-2 c = search needs
 copy-requires : tie.Need-copy-requires Inv-loop μ-loop
 copy-requires c κs =
     let s = c .before .before in
-    let n = s .stretch .result in
     let fit = s .stretch .ensures in
     let l = s .before .before .loop in
-    let a = s .before .before .before .before .before .before .before .args in
-    let room : l .at + n ≤ length (l .arena) = omega (arith, fit, l .inv .1, l .inv .2) in
-    let left : l .i + n ≤ length (a .src .now) = omega (arith, fit, l .inv .0) in
-    part-length (l .arena) (l .at) n room ∙ sym (part-length (a .src .now) (l .i) n left)
+    alike _ _ _ _ (s .stretch .result) (omega (arith, fit, l .inv .1, l .inv .2)) (omega (arith, fit, l .inv .0))
 
 add-following : tie.Need-add-following Inv-loop μ-loop
 add-following c = search needs
@@ -107,7 +103,7 @@ loop-again c =
     let left : l .i + n ≤ length (a .src .now) = omega (arith, fit, l .inv .0) in
     let at : l .at ≡ (a .off + l .i) % length (l .arena) = rw (l .inv .1) (l .inv .3) in (
       left,
-      put-length (l .at) n (l .arena) (k .last .0) room (ap length (k .ensures) ∙ part-length (a .src .now) (l .i) n left) ∙ l .inv .1,
+      put-length (l .at) n (l .arena) (k .last .0) room (ap length (k .ensures) ∙ part-length _ _ n (omega (arith, fit, l .inv .0))) ∙ l .inv .1,
       c .following .ensures .1,
       c .following .ensures .0 ∙ follows all (a .off + l .i) (l .at) n (l .inv .3) ∙ ap (λ (m : ℕ). m % all) (add-assoc (a .off) (l .i) n),
       keep-turn (l .arena) (a .off) (l .i) (l .at) n (a .src .now) (k .last .0) at room left (k .ensures) ∙ l .inv .4,
