@@ -16,18 +16,18 @@ put-sets p k xs ys e h =
     let s : p + length ys ≤ length xs = omega arith in
     rw (sets-eq ys xs p s, drop-drop k p xs, e, append-assoc (take p xs) ys (drop (p + length ys) xs))
 
--- such a part, and the whole that it comes back to, are as long as before
+-- a part of n bytes has n of them, and another one has as many
 pub part-length : (src : List ℕ) (i n : ℕ) → i + n ≤ length src → length (take (i + n - i) (drop i src)) ≡ n
 part-length src i n h =
     let z : i + n - i ≡ n = omega arith in
     let d : length (drop i src) ≡ length src - i = length-drop i src in
     ap (λ (m : ℕ). length (take m (drop i src))) z ∙ length-take-le n (drop i src) (omega arith)
 
--- two parts of n are alike
 pub alike : (xs ys : List ℕ) (p q n : ℕ) → p + n ≤ length xs → q + n ≤ length ys
     → length (take (p + n - p) (drop p xs)) ≡ length (take (q + n - q) (drop q ys))
 alike xs ys p q n h k = part-length xs p n h ∙ sym (part-length ys q n k)
 
+-- the whole that a part comes back to is as long as before
 pub put-length : (p n : ℕ) (xs ys : List ℕ) → p + n ≤ length xs → length ys ≡ n → length (putMid p (p + n - p) xs ys) ≡ length xs
 put-length p n xs ys h e = ap length (put-sets p (p + n - p) xs ys (omega arith) (omega arith)) ∙ length-sets xs p ys
 
