@@ -167,7 +167,7 @@ pub fn alphabets() -> Vec<(&'static str, usize, Vec<&'static str>)> {
     ]
 }
 
-fn bytes(dice: &mut Dice, n: u64) -> String {
+pub fn bytes(dice: &mut Dice, n: u64) -> String {
     if n == 0 {
         "x".into()
     } else {

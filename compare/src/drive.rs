@@ -2,13 +2,18 @@
 //!
 //! Both programs speak the call script. Each call goes to the port first. What the port refuses by a refusal that quiche does
 //! not have, and what stands in a row of docs/DIFFERENCES.md, does not reach quiche: it is held to the rules and to the
-//! row (owed.rs). Every other answer, and the whole state after it, must be the same text. First every short sequence over small
-//! alphabets, then random sequences around every boundary for the time given. A difference in no row is shrunk, printed, and the
-//! exit status is 1.
+//! row (owed.rs). Every other answer, and the whole state after it, must be the same text. A send buffer's calls are all held to the
+//! second reading of docs/RULES.md (sender.rs) as well, and from the first joining of its chunks on, which quiche does not have, to it
+//! alone. First every short sequence over small alphabets, then random sequences around every boundary for the time given. A difference
+//! in no row is shrunk, printed, and the exit status is 1.
 
 mod calls;
+mod losing;
 mod owed;
 mod rows;
+#[allow(dead_code)]
+mod script;
+mod sender;
 mod side;
 
 use std::collections::BTreeMap;
@@ -21,9 +26,15 @@ use calls::crowding;
 use calls::first;
 use calls::flowing;
 use calls::Dice;
+use losing::crowded;
+use losing::losing;
 use rows::added;
+use rows::chunks;
+use rows::field;
+use rows::refusal;
 use rows::row;
 use rows::Form;
+use sender::Sender;
 use side::Side;
 
 /// What the port said, and who says otherwise what.
@@ -39,6 +50,9 @@ struct Running {
     before: String,
     form: Form,
     arena: u64,
+    sender: Sender,
+    /// Chunks were joined.
+    joined: bool,
     /// The calls that quiche was told, by index, with the port's lines for them.
     asked: Vec<(usize, String)>,
     /// A difference that was seen without quiche.
@@ -53,6 +67,8 @@ impl Running {
             before: "-".into(),
             form: Form::default(),
             arena: 0,
+            sender: Sender::default(),
+            joined: false,
             asked: Vec::new(),
             end: None,
         }
@@ -68,10 +84,37 @@ impl Running {
     }
 }
 
-/// The number of the refusal that an answer is, 0 for a success.
-fn refusal(said: &str) -> u64 {
-    let number = said.strip_prefix("no ").and_then(|code| code.split(' ').next());
-    number.map_or(0, |n| n.parse().unwrap_or(0))
+/// What was seen of joinings (docs/RULES.md, 4.10).
+#[derive(Default)]
+struct Joinings {
+    by_write: u64,
+    by_retransmit: u64,
+    sequences: u64,
+    /// Calls from the first joining of a sequence on; among them an `ack_and_drop` that leaves the first chunk acked in part, an `emit` of
+    /// bytes that an ack has covered, and a `retransmit` that is refused TableFull.
+    alone: u64,
+    in_part: u64,
+    again: u64,
+    full: u64,
+}
+
+impl Joinings {
+    /// A call of a send buffer that has joined, now or before.
+    fn count(&mut self, name: &str, said: &str, before: &str, after: &str) {
+        let acked = |state: &str| state.split_once(" acked=[0-").map_or(0, |(_, rest)| leading(rest));
+        let in_part = |c: &(u64, u64, u64)| c.0 < acked(after) && acked(after) < c.0 + c.1;
+        self.alone += 1;
+        self.in_part += (name == "s.ack_and_drop" && chunks(after).first().is_some_and(in_part)) as u64;
+        let front = chunks(before).iter().find(|c| c.2 < c.1).map_or(u64::MAX, |c| c.0 + c.2);
+        self.again += (name == "s.emit" && front < acked(before) && field(after, "tosend") < field(before, "tosend")) as u64;
+        self.full += (name == "s.retransmit" && said == "no 6") as u64;
+    }
+}
+
+/// The number that a text begins with.
+fn leading(text: &str) -> u64 {
+    let digits = text.split(|c: char| !c.is_ascii_digit()).next();
+    digits.and_then(|n| n.parse().ok()).unwrap_or(0)
 }
 
 struct Compare {
@@ -80,6 +123,7 @@ struct Compare {
     calls: BTreeMap<String, u64>,
     refused: BTreeMap<String, u64>,
     rows: BTreeMap<&'static str, u64>,
+    joinings: Joinings,
     compared: u64,
 }
 
@@ -91,41 +135,66 @@ impl Compare {
         let (said, after) = (said.to_string(), after.to_string());
         run.done.push(line.clone());
         *self.calls.entry(name.clone()).or_default() += 1;
-        if name == "s.new" || name == "r.new" {
-            run.arena = line.rsplit(' ').next().unwrap().parse().unwrap_or(0);
-        }
         if said.is_empty() {
             return run.ends("the program has ended".into(), "docs/RULES.md", "an answer".into());
         }
-        let owed = owed::owed(&line, &run.before, run.arena);
-        if owed != refusal(&said) {
-            let owed = if owed == 0 {
-                "no refusal".into()
-            } else {
-                format!("no {owed}")
-            };
-            return run.ends(port, "docs/RULES.md", owed);
-        }
-        if let Some((row, goes_on)) = row(&line, &run.before, &said, &after, &run.form) {
-            *self.rows.entry(row).or_default() += 1;
-            let kept = owed::by_row(row, &line, &run.before);
-            run.before = after;
-            return if port == kept {
-                goes_on
-            } else {
-                run.ends(port, "docs/DIFFERENCES.md", kept)
-            };
+        if name.starts_with("s.") {
+            let kept = run.sender.line(&line);
+            self.count_joinings(run, &name, &said, &after);
+            if port != kept {
+                return run.ends(port, "docs/RULES.md", kept);
+            }
+        } else if let Some(goes_on) = self.ruled(run, &name, &line, &port) {
+            return goes_on;
         }
         if added(&said) {
             *self.refused.entry(format!("{name} {said}")).or_default() += 1;
             let kept = format!("{said} | {}", run.before);
             return port == kept || run.ends(port, "docs/RULES.md", kept);
         }
-        self.oracle.tell(&line);
-        run.asked.push((run.done.len(), port));
         run.form.step(&line, &after);
         run.before = after;
+        if run.sender.joined.is_none() || !name.starts_with("s.") {
+            self.oracle.tell(&line);
+            run.asked.push((run.done.len(), port));
+        }
         true
+    }
+
+    /// What owed.rs says of a call and of the port's line for it. Can the sequence go on? Nothing if quiche is to be heard.
+    fn ruled(&mut self, run: &mut Running, name: &str, line: &str, port: &str) -> Option<bool> {
+        let (said, after) = port.split_once(" | ")?;
+        if name == "r.new" {
+            run.arena = line.rsplit(' ').next().unwrap().parse().unwrap_or(0);
+        }
+        let owed = owed::owed(line, &run.before, run.arena);
+        if owed != refusal(said) {
+            let owed = if owed == 0 {
+                "no refusal".into()
+            } else {
+                format!("no {owed}")
+            };
+            return Some(run.ends(port.into(), "docs/RULES.md", owed));
+        }
+        let (row, goes_on) = row(line, &run.before, said, after, &run.form)?;
+        *self.rows.entry(row).or_default() += 1;
+        let kept = owed::by_row(row, line, &run.before);
+        run.before = after.into();
+        Some(if port == kept {
+            goes_on
+        } else {
+            run.ends(port.into(), "docs/DIFFERENCES.md", kept)
+        })
+    }
+
+    fn count_joinings(&mut self, run: &mut Running, name: &str, said: &str, after: &str) {
+        if run.sender.joined.is_none() {
+            return;
+        }
+        self.joinings.by_write += (run.sender.joined_now && name == "s.write") as u64;
+        self.joinings.by_retransmit += (run.sender.joined_now && name == "s.retransmit") as u64;
+        self.joinings.sequences += !std::mem::replace(&mut run.joined, true) as u64;
+        self.joinings.count(name, said, &run.before, after);
     }
 
     /// Hears quiche's answers to a sequence that has ended; the calls up to the first difference, and the difference.
@@ -143,18 +212,29 @@ impl Compare {
         Some((run.done, difference))
     }
 
-    /// A whole sequence, each call by the state that the one before left.
-    fn sequence(&mut self, mut next: impl FnMut(&str) -> Option<String>) -> Option<(Vec<String>, Difference)> {
+    /// A whole sequence: the calls that it starts with, of which the port is told at once, and then each by the state that the one
+    /// before left.
+    fn sequence(&mut self, start: &[String], mut next: impl FnMut(&str) -> Option<String>) -> Option<(Vec<String>, Difference)> {
         let mut run = Running::begin(&mut self.oracle);
-        self.port.begin();
-        self.port.hear();
-        while let Some(line) = next(&run.before) {
+        let answers = self.port.ask_all(start);
+        if self.port.ended {
+            self.settle(run);
+            return self.one_by_one(start);
+        }
+        let mut said = start.iter().cloned().zip(answers);
+        let mut goes_on = said.all(|(line, port)| self.call(&mut run, line, port));
+        while goes_on {
+            let Some(line) = next(&run.before) else { break };
             let port = self.port.ask(&line);
-            if !self.call(&mut run, line, port) {
-                break;
-            }
+            goes_on = self.call(&mut run, line, port);
         }
         self.settle(run)
+    }
+
+    /// A sequence in which the port ends: its last words are lost with it, so it is asked once more, call by call.
+    fn one_by_one(&mut self, lines: &[String]) -> Option<(Vec<String>, Difference)> {
+        let mut lines = lines.iter().cloned();
+        self.sequence(&[], |_| lines.next())
     }
 
     /// Sequences that are known beforehand: both sides are told all of them at once. The first that has a difference.
@@ -169,11 +249,7 @@ impl Compare {
         };
         let answers: Vec<_> = all.iter().map(|lines| hear(&mut self.port, lines)).collect();
         if self.port.ended {
-            // Its last words are lost with it: once more, call by call.
-            return all.iter().find_map(|lines| {
-                let mut lines = lines.iter().cloned();
-                self.sequence(|_| lines.next())
-            });
+            return all.iter().find_map(|lines| self.one_by_one(lines));
         }
         let mut runs = Vec::new();
         for (lines, answers) in all.iter().zip(answers) {
@@ -285,6 +361,19 @@ fn report(compare: &Compare) {
     for (name, n) in &compare.rows {
         println!("  {n:>12}  {name}");
     }
+    let j = &compare.joinings;
+    println!("joinings of a send buffer's chunks, which quiche does not have:");
+    for (what, n) in [
+        ("joined by a write", j.by_write),
+        ("joined by a retransmit", j.by_retransmit),
+        ("sequences with a joining", j.sequences),
+        ("calls from a joining on, held to docs/RULES.md alone", j.alone),
+        ("of these: ack_and_drop that left the first chunk acked in part", j.in_part),
+        ("of these: emit of bytes that an ack had covered", j.again),
+        ("of these: retransmit no 6", j.full),
+    ] {
+        println!("  {n:>12}  {what}");
+    }
     println!("answers and states compared: {}", compare.compared);
 }
 
@@ -337,6 +426,25 @@ fn exhaustive(compare: &mut Compare) {
     }
 }
 
+/// A random sequence of one object's calls; one in three is of a send buffer with many chunks and many losses.
+fn random(compare: &mut Compare, dice: &mut Dice) {
+    let mut object = dice.pick(&["rb", "fc", "rs", "rs", "s", "s", "s", "r", "r", "r"]);
+    let mut left = dice.pick(&[5, 20, 60, 200, 400]);
+    let mut way: fn(&mut Dice, &str, &str) -> String = dice.pick(&[call, call, crowding, flowing]);
+    let mut start = vec![first(dice, object)];
+    if dice.one_in(3) {
+        (object, way, start) = ("s", losing, crowded(dice));
+        left = dice.pick(&[5, 10, 20, 40, 200]);
+    }
+    let found = compare.sequence(&start, |state| {
+        left -= 1;
+        (left > 0 && state != "-").then(|| way(dice, object, state))
+    });
+    if let Some((lines, _)) = found {
+        fail(compare, lines);
+    }
+}
+
 fn main() {
     let args: Vec<String> = std::env::args().collect();
     let [_, port, oracle, seconds, seed] = &args[..] else {
@@ -350,27 +458,14 @@ fn main() {
         calls: BTreeMap::new(),
         refused: BTreeMap::new(),
         rows: BTreeMap::new(),
+        joinings: Joinings::default(),
         compared: 0,
     };
     exhaustive(&mut compare);
     let (began, mut told) = (Instant::now(), Instant::now());
     let mut dice = Dice(seed.wrapping_mul(0x9e37_79b9_7f4a_7c15) | 1);
     while began.elapsed() < Duration::from_secs(seconds) {
-        let object = dice.pick(&["rb", "fc", "rs", "rs", "s", "s", "s", "r", "r", "r"]);
-        let length = dice.pick(&[5, 20, 60, 200, 400]);
-        let way: fn(&mut Dice, &str, &str) -> String = dice.pick(&[call, call, crowding, flowing]);
-        let mut made = 0;
-        let found = compare.sequence(|state| {
-            made += 1;
-            match made {
-                1 => Some(first(&mut dice, object)),
-                m if m < length && state != "-" => Some(way(&mut dice, object, state)),
-                _ => None,
-            }
-        });
-        if let Some((lines, _)) = found {
-            fail(&mut compare, lines);
-        }
+        random(&mut compare, &mut dice);
         if told.elapsed() > Duration::from_secs(5) {
             told = Instant::now();
             eprintln!(

@@ -2,30 +2,20 @@
 //! down, and what a row of docs/DIFFERENCES.md has in its column "here".
 //!
 //! This is a second reading of the rules, in whole numbers and over lists, without the code's tables and steps: a refusal that comes
-//! too early, too late or in the wrong order is seen here, and a row that the port does not keep to.
+//! too early, too late or in the wrong order is seen here, and a row that the port does not keep to. The send buffer's calls are not here:
+//! sender.rs has all of them, with their answers and states.
 
+use crate::rows;
 use crate::rows::field;
 use crate::rows::is_set;
 use crate::rows::ranges;
 
 const M: u128 = (1 << 62) - 1;
 
-/// The chunks of a buffer's state line, or the one chunk of a chunk's: offset, length, consumed part.
+/// The chunks of a state: offset, length, consumed part.
 fn chunks(state: &str) -> Vec<(u128, u128, u128)> {
-    let inner = state.strip_prefix("chunks=[").map_or(state, |s| s.split(']').next().unwrap());
-    let chunk = |w: &str| {
-        let (off, rest) = w.split_once('+')?;
-        let (len, consumed) = rest.split_once('~')?;
-        Some((off.parse().ok()?, len.parse().ok()?, consumed.parse().ok()?))
-    };
-    inner.split(',').filter_map(chunk).collect()
-}
-
-fn acked(state: &str) -> Vec<(u64, u64)> {
-    state
-        .split(' ')
-        .find_map(|w| w.strip_prefix("acked="))
-        .map_or(Vec::new(), ranges)
+    let wide = |c: (u64, u64, u64)| (c.0.into(), c.1.into(), c.2.into());
+    rows::chunks(state).into_iter().map(wide).collect()
 }
 
 /// The first test that holds gives its number; 0 is a success.
@@ -49,35 +39,6 @@ impl Asked<'_> {
 
     fn fin(&self) -> Option<u128> {
         field(self.state, "fin").map(u128::from)
-    }
-
-    fn send_write(&self) -> u64 {
-        let (n, off, held) = (self.n[0], self.at("off"), chunks(self.state));
-        let (m, left) = (off + n, self.at("limit").saturating_sub(off));
-        let marked = self.n[1] == 1 && n <= left;
-        let below = acked(self.state).first().is_some_and(|r| r.0 == 0 && m <= r.1.into());
-        let accepted = if below { 0 } else { n.min(left) };
-        let begin = held.first().map_or(off, |c| c.0);
-        first(&[
-            (self.lent != self.arena, 10),
-            (is_set(self.state, "err"), 2),
-            (self.fin().is_some_and(|f| m > f || m == f && !marked), 3),
-            (accepted + off > begin + self.arena, 5),
-            (held.len() as u128 + accepted.div_ceil(4096) > 64, 6),
-        ])
-    }
-
-    fn ack(&self) -> u64 {
-        let (start, end, set) = (self.n[0], self.n[0] + self.n[1], acked(self.state));
-        let joins = set.iter().any(|r| u128::from(r.0) <= end && u128::from(r.1) >= start);
-        first(&[(end > self.at("emitted"), 7), (set.len() == 64 && !joins, 6)])
-    }
-
-    fn retransmit(&self) -> u64 {
-        let (end, held) = (self.n[0] + self.n[1], chunks(self.state));
-        let acked = acked(self.state).first().map_or(0, |r| if r.0 == 0 { r.1.into() } else { 0 });
-        let splits = held.iter().any(|c| c.0 < end && end < c.0 + c.1);
-        first(&[(end > self.at("emitted"), 7), (end > acked && splits && held.len() == 64, 6)])
     }
 
     /// How many chunks a frame would leave.
@@ -165,13 +126,13 @@ fn asked<'a>(line: &'a str, state: &'a str, arena: u64) -> (&'a str, Asked<'a>) 
     (call, asked)
 }
 
-/// The number of the refusal that a call is owed, 0 for a success; `arena` is the length at creation.
+/// The number of the refusal that a call is owed, 0 for a success; `arena` is the length at creation. No call of a send buffer.
 pub fn owed(line: &str, state: &str, arena: u64) -> u64 {
     let (call, asked) = asked(line, state, arena);
     if state == "-" && !call.ends_with(".new") {
         return 0;
     }
-    let (n, no_arena) = (&asked.n, |a: u128| a == 0 || a > 65536);
+    let n = &asked.n;
     let chunk = chunks(state).first().copied().unwrap_or((0, 0, 0));
     match call {
         "rb.new" => first(&[(n[0] + n[1] > M, 1)]),
@@ -179,18 +140,11 @@ pub fn owed(line: &str, state: &str, arena: u64) -> u64 {
         "rb.split" => first(&[(n[0] > chunk.1, 1)]),
         "fc.new" => first(&[(n.iter().any(|n| *n > M), 10)]),
         "fc.add_consumed" | "r.fc.add_consumed" => first(&[(asked.at("consumed") + n[0] > M, 1)]),
-        "fc.lower_bound" | "r.fc.lower_bound" | "s.update_max_data" => first(&[(n[0] > M, 1)]),
+        "fc.lower_bound" | "r.fc.lower_bound" => first(&[(n[0] > M, 1)]),
         "rs.new" => first(&[(n[0] == 0 || n[0] > 64, 10)]),
         "rs.insert" => first(&[(n[0] > n[1], 1)]),
         "rs.push_item" => first(&[(n[0] == u64::MAX.into(), 1)]),
-        "s.new" => first(&[(n[0] > M || no_arena(n[1]), 10)]),
-        "s.write" => asked.send_write(),
-        "s.emit" => first(&[(asked.lent != asked.arena, 10)]),
-        "s.ack" | "s.ack_and_drop" => asked.ack(),
-        "s.retransmit" => asked.retransmit(),
-        "s.stop" => first(&[(is_set(state, "err"), 8)]),
-        "s.shutdown" => first(&[(asked.at("shut") == 1, 8)]),
-        "r.new" => first(&[(n[0] > M || n[1] > M || no_arena(n[2]), 10)]),
+        "r.new" => first(&[(n[0] > M || n[1] > M || n[2] == 0 || n[2] > 65536, 10)]),
         "r.write" => asked.recv_write(),
         "r.emit" | "r.discard" => asked.hand_out(),
         "r.reset" => asked.recv_reset(),

@@ -23,6 +23,17 @@ pub fn ranges(state: &str) -> Vec<(u64, u64)> {
     inner.split(',').filter_map(pair).collect()
 }
 
+/// The chunks of a buffer's state line, or the one chunk of a chunk's: offset, length, consumed part.
+pub fn chunks(state: &str) -> Vec<(u64, u64, u64)> {
+    let inner = state.strip_prefix("chunks=[").map_or(state, |s| s.split(']').next().unwrap());
+    let chunk = |w: &str| {
+        let (off, rest) = w.split_once('+')?;
+        let (len, consumed) = rest.split_once('~')?;
+        Some((off.parse().ok()?, len.parse().ok()?, consumed.parse().ok()?))
+    };
+    inner.split(',').filter_map(chunk).collect()
+}
+
 /// What the comparison knows of quiche's range set that no answer shows: which of its two forms it has, and its capacity.
 #[derive(Default)]
 pub struct Form {
@@ -83,6 +94,12 @@ pub fn row(line: &str, before: &str, said: &str, after: &str, form: &Form) -> Op
         }
         _ => None,
     }
+}
+
+/// The number of the refusal that an answer is, 0 for a success.
+pub fn refusal(said: &str) -> u64 {
+    let number = said.strip_prefix("no ").and_then(|code| code.split(' ').next());
+    number.map_or(0, |n| n.parse().unwrap_or(0))
 }
 
 /// A refusal that quiche does not have.

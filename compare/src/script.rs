@@ -1,4 +1,5 @@
-//! What both sides of the comparison share: the call script's words, and the loop that reads calls and writes lines.
+//! What both sides of the comparison and the second reading of the send buffer share: the call script's words. And the loop of both sides
+//! that reads calls and writes lines.
 //!
 //! The script is taken as docs/CALL-SCRIPT.md has it and no other way: a line that is none of its own is answered `bad LINE` and ends the
 //! program with status 2.
@@ -275,7 +276,8 @@ fn answered(side: &mut impl Side, line: &str) -> Option<String> {
     }
 }
 
-fn parsed(name: &str, words: &[&str]) -> Option<Call> {
+/// A call by its name and its words, `None` if it is none of the script's.
+pub fn parsed(name: &str, words: &[&str]) -> Option<Call> {
     let (name, kinds) = CALLS.iter().find(|(known, _)| *known == name)?;
     let (object, call) = name.split_once('.')?;
     let mut parsed = Call {

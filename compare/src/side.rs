@@ -52,6 +52,14 @@ impl Side {
         self.hear()
     }
 
+    /// A new sequence, and what its first calls are answered.
+    pub fn ask_all(&mut self, lines: &[String]) -> Vec<String> {
+        self.begin();
+        lines.iter().for_each(|line| self.tell(line));
+        self.hear();
+        lines.iter().map(|_| self.hear()).collect()
+    }
+
     /// A new sequence, in a new process where the old one has ended. Its echo is still to be heard.
     pub fn begin(&mut self) {
         if self.ended {

@@ -1,14 +1,19 @@
 //! Writes the stored list of the program `vectors`: `vectors ORACLE SEQUENCES SEED DATE`.
 //!
 //! Every call goes to quiche, and the list has quiche's line for it. Whether docs/RULES.md asks for another is decided by the rules of
-//! owed.rs, over quiche's own state before the call. Our code has no part in it.
+//! owed.rs, over quiche's own state before the call, and for a send buffer by sender.rs, which is told every call. Our code has no part
+//! in it.
 //!
 //! After a call that docs/RULES.md answers otherwise quiche is started afresh and given the sequence again without that call, so
-//! that the two go on from the same state. Where docs/RULES.md asks for another state than quiche can have, the sequence ends.
+//! that the two go on from the same state. Where docs/RULES.md asks for another state than quiche can have, the sequence ends. Once a
+//! send buffer's chunks were joined, quiche goes on with its own state, and every call has a line of the rules.
 
 mod calls;
 mod owed;
 mod rows;
+#[allow(dead_code)]
+mod script;
+mod sender;
 mod side;
 
 use std::collections::BTreeMap;
@@ -24,23 +29,34 @@ use owed::owed;
 use rows::added;
 use rows::field;
 use rows::is_set;
+use rows::refusal;
 use rows::row;
 use rows::Form;
+use sender::Sender;
 use side::Side;
 
 const OBJECTS: [&str; 5] = ["rb", "fc", "rs", "s", "r"];
 
 /// Rows that a call sequence can show: all but D-33.
-const ROWS: [u32; 30] = [
-    1, 2, 3, 4, 5, 6, 7, 8, 9, 10, 11, 12, 13, 14, 20, 21, 22, 23, 24, 25, 26, 27, 28, 29, 30, 31, 32, 40, 41, 42,
+const ROWS: [u32; 33] = [
+    1, 2, 3, 4, 5, 6, 7, 8, 9, 10, 11, 12, 13, 14, 20, 21, 22, 23, 24, 25, 26, 27, 28, 29, 30, 31, 32, 34, 35, 36, 40, 41, 42,
 ];
+
+/// How quiche goes on after a line that docs/RULES.md asks for instead of its own.
+enum Then {
+    /// From the state before the call: it is as if it had not been made.
+    LeftOut,
+    /// From its own state.
+    Made,
+    /// Not at all: it cannot have the state of that line.
+    Apart,
+}
 
 /// A line that docs/RULES.md asks for instead of quiche's.
 struct Ruled {
     row: u32,
     line: String,
-    /// Has quiche the state of that line once the call is left out?
-    left_out: bool,
+    then: Then,
 }
 
 /// The row of an added refusal, by the call and the refusal's number.
@@ -58,7 +74,7 @@ fn row_of_refusal(call: &str, number: u64) -> u32 {
         ("rs.push_item", _) => 14,
         ("s.update_max_data", _) => 21,
         ("s.write", 5) => 22,
-        ("s.write" | "s.retransmit", 6) => 23,
+        ("s.retransmit", 6) => 23,
         ("s.ack" | "s.ack_and_drop", 6) => 24,
         (_, 7) => 25,
         ("r.write" | "r.reset", 1) => 26,
@@ -98,8 +114,9 @@ struct List {
     /// The state of each object, as the list has it.
     states: BTreeMap<String, String>,
     form: Form,
-    /// The arenas' lengths: of the send and of the receive buffer.
-    arenas: [u64; 2],
+    /// The length of the receive buffer's arena.
+    arena: u64,
+    sender: Sender,
     /// The code of a reset that quiche does not tell its reader (D-32).
     untold: Option<u64>,
     /// The last line's state is one that quiche cannot have.
@@ -112,11 +129,12 @@ struct List {
 impl List {
     fn seq(&mut self, label: &str) {
         let line = format!("seq {label}");
-        self.afresh();
         self.lines.push(line);
         self.made.clear();
+        self.restore();
         self.states.clear();
         self.form = Form::default();
+        self.sender = Sender::default();
         self.untold = None;
         self.apart = false;
     }
@@ -125,17 +143,9 @@ impl List {
         self.states.get(object).cloned().unwrap_or("-".into())
     }
 
-    fn afresh(&mut self) {
-        self.oracle.begin();
-        self.oracle.hear();
-    }
-
     /// Gives quiche the sequence again.
     fn restore(&mut self) {
-        self.afresh();
-        for line in &self.made {
-            self.oracle.ask(line);
-        }
+        self.oracle.ask_all(&self.made);
     }
 
     /// A call and its lines in the list. `both` names a row of "The rules against RFC 9000", in which quiche's line is the rules' too.
@@ -154,12 +164,10 @@ impl List {
             Some(r) => {
                 self.lines.push(format!("! D-{} {}", r.row, r.line));
                 *self.rows.entry(r.row).or_default() += 1;
-                if r.left_out {
-                    self.restore();
-                } else if r.row == 32 {
-                    self.made.push(line.into());
-                } else {
-                    self.apart = true;
+                match r.then {
+                    Then::LeftOut => self.restore(),
+                    Then::Made => self.made.push(line.into()),
+                    Then::Apart => self.apart = true,
                 }
             }
             None => {
@@ -172,9 +180,8 @@ impl List {
                 }
             }
         }
-        if name == "new" && said == "ok" {
-            let last = line.rsplit(' ').next().and_then(|w| w.parse().ok()).unwrap_or(0);
-            self.arenas[(object == "r") as usize] = last;
+        if line.starts_with("r.new ") && said == "ok" {
+            self.arena = line.rsplit(' ').next().and_then(|w| w.parse().ok()).unwrap_or(0);
         }
         self.states.insert(object.into(), after.into());
         *self.calls.entry(object.into()).or_default() += 1;
@@ -187,21 +194,45 @@ impl List {
             (Some((name, _)), Some(r)) => assert!(name.starts_with(&format!("D-{} ", r.row)), "{line}: {name} is D-{}", r.row),
             // quiche may give the same answer all the same: consumed above the limit with F known, an empty frame, a range that stays
             (Some(_), None) => {}
-            (None, Some(r)) => assert!(added(said) || r.row == 32, "{line}: D-{} is unknown to the comparison", r.row),
+            (None, Some(r)) => assert!(
+                added(said) || [32, 34, 35, 36].contains(&r.row),
+                "{line}: D-{} is unknown to the comparison",
+                r.row
+            ),
             (None, None) => assert!(!added(said), "{line}: {said}"),
         }
+    }
+
+    /// What docs/RULES.md asks of a send buffer: where it adds a refusal, and in every call once chunks were joined.
+    fn sent(&mut self, name: &str, line: &str, quiche: &str) -> Option<Ruled> {
+        let ours = self.sender.line(line);
+        let (said, quiche_said) = (ours.split(" | ").next().unwrap(), quiche.split(" | ").next().unwrap());
+        let (row, then) = match self.sender.joined {
+            _ if added(said) => (row_of_refusal(name, refusal(said)), Then::LeftOut),
+            Some(_) if name == "s.ack_and_drop" && said != quiche_said => (36, Then::Made),
+            Some("write") => (34, Then::Made),
+            Some(_) => (35, Then::Made),
+            None => {
+                assert!(ours == quiche, "{line}: quiche {quiche}, docs/RULES.md {ours}");
+                return None;
+            }
+        };
+        Some(Ruled { row, line: ours, then })
     }
 
     /// What docs/RULES.md asks where quiche answers otherwise.
     fn ruled(&mut self, line: &str, before: &str, quiche: &str) -> Option<Ruled> {
         let name = line.split(' ').next().unwrap();
+        if name.starts_with("s.") {
+            return self.sent(name, line, quiche);
+        }
         let (said, after) = quiche.split_once(" | ").unwrap();
-        let number = owed(line, before, self.arenas[name.starts_with("r.") as usize]);
+        let number = owed(line, before, self.arena);
         if added(&format!("no {number}")) {
             return Some(Ruled {
                 row: row_of_refusal(name, number),
                 line: format!("no {number} | {before}"),
-                left_out: true,
+                then: Then::LeftOut,
             });
         }
         // the reader is told of a reset that quiche keeps to itself (D-32): the notice goes with that, and the states are the same again
@@ -213,7 +244,7 @@ impl List {
             return Some(Ruled {
                 row: 32,
                 line: format!("no 9 {code} | {after}"),
-                left_out: false,
+                then: Then::Made,
             });
         }
         let row = row_of(line, before, said, after).filter(|_| before != "-")?;
@@ -223,7 +254,11 @@ impl List {
         Some(Ruled {
             row,
             line: by_row(&format!("D-{row} "), line, before),
-            left_out: ![10, 11, 12, 32].contains(&row),
+            then: match row {
+                10..=12 => Then::Apart,
+                32 => Then::Made,
+                _ => Then::LeftOut,
+            },
         })
     }
 
@@ -328,9 +363,10 @@ fn head(list: &List, seed: &str, date: &str) -> String {
 # Made on {date} by `compare/vectors {seed}`, after `compare/build`, from quiche 0.30.0's own files, compiled unchanged with overflow checks
 # on. The first sequences are those of compare/sequences.txt; the others are random, from the seed {seed}. The lines that begin with `<` are
 # quiche's own. Those that begin with `!` were reckoned from quiche's state before the call, by the rules that compare/src/owed.rs has from
-# docs/RULES.md; no line was taken from the code that the program tries. After a call with such a line quiche
-# was given the sequence again without it, so both go on from the same state; where docs/RULES.md asks for a state that quiche cannot
-# have, the sequence ends.
+# docs/RULES.md; a send buffer's from all its calls, by compare/src/sender.rs. No line was taken from the code that the program tries.
+# After a call with such a line quiche was given the sequence again without it, so both go on from the same state; where docs/RULES.md
+# asks for a state that quiche cannot have, the sequence ends. But where a send buffer's chunks are joined (D-34, D-35), quiche goes on
+# with its own state: every call from there on has both lines, also where they are the same.
 #
 # D-33 is not shown: that quiche's constructor takes three numbers is no call of the script, whose `r.new` gives it limit and window alike.
 # An arena is lent to our calls only: quiche has none, so it does not see the last number of `s.new` and `r.new`, nor `@N`.
@@ -361,7 +397,8 @@ fn main() {
         made: Vec::new(),
         states: BTreeMap::new(),
         form: Form::default(),
-        arenas: [0; 2],
+        arena: 0,
+        sender: Sender::default(),
         untold: None,
         apart: false,
         calls: BTreeMap::new(),

@@ -1,7 +1,7 @@
 -- A sender whose frames END at cut points: then they also start at one, except at the first chunk held. Assumes nothing.
 --
 --   Fronts        where bytes to send begin behind bytes sent there is a cut: so the front is one, or the start of the first chunk     front-at
---                 kept by every call, if frames end at cuts      fronts-sent, fronts-cut, fronts-append, fronts-behind, fronts-back
+--                 kept by every call, if frames end at cuts      fronts-sent, fronts-cut, fronts-append, fronts-behind, fronts-back, fronts-tabled
 --   Ends          every acked range ends at a cut: kept when one more enters, and so contiguous ack is one                ends-placed, ack-ends
 --   Poised        the two, of a send buffer: kept by every call                          poised-wrote, poised-sent, poised-acked, poised-dropped, poised-lost
 --   begin         where the first chunk held begins: only a drop moves it, to a cut or to an acked byte            begin-wrote, .., begin-drops
@@ -12,7 +12,7 @@ use mathlib.Core.List.{List, [], _∷_, _++_}
 use Prim.Native.Nat.{ℕ, zero, suc, _+_, _-_, _*_, _≤_, _<_, min}
 use native.Mathlib.Omega.{arith}
 use lib.Dec.{ltb, leb, eqb}
-use lib.ListN.{drop}
+use lib.ListN.{length, drop}
 use borrow.Author.Tests.{ltb-true, ltb-false, leb-true, leb-false, eqb-true, le-leb, lt-ltb}
 use Rattle.tables.specs.Lists.{filterBy}
 use Rattle.tables.proofs.Tables.{cases, cond-elim}
@@ -22,9 +22,11 @@ use Rattle.ranges.specs.declared.Range.{Range}
 use Rattle.ranges.specs.State.{upto}
 use Rattle.ranges.specs.Rules.{memberOf, endsBelow, startsAbove, joins, hull, hull2, placed}
 use Rattle.send_buf.specs.State.{Send, base, Adjoin, Spent, GoodSend}
-use Rattle.send_buf.specs.Rules.{ackOff, newSend, accepted, pieces, cut, wrote, frontOf, front, copied, advanced, first, emitCount, sent, ackedMore, behind, dropTo, dropped, movedBack, back, settled, lost}
-use Rattle.send_buf.proofs.Chunks.{advancedFrom, adj-base, adj-append, adj-cut, adj-behind, adj-back, base-sent, copied-none, advanced-none}
+use Rattle.send_buf.specs.Rules.{ackOff, newSend, accepted, stays, both, joinedTo, joined, tabled, pieces, cut, longer, wrote, frontOf, front, copied, advanced, first, emitCount, sent, ackedMore, behind, dropTo, dropped, movedBack, back, settled, lost}
+use Rattle.send_buf.proofs.Chunks.{advancedFrom, adj-behind, adj-back, base-sent, copied-none, advanced-none}
 use Rattle.send_buf.proofs.Position.{spent-weak}
+use Rattle.send_buf.proofs.Joining.{goes, adj-joined, base-tabled}
+use Rattle.send_buf.proofs.Kept.{laid}
 use Rattle.tables.proofs.Tests.{and-true, either}
 
 -- ---- the acked ranges
@@ -172,6 +174,31 @@ module _ (Cut : ℕ → Type 0) where
       (λ d. fronts-behind off cs k (fronts-weak (avail c) 1 off cs (λ x. omega arith) (h .1)))
       (λ d. h)
 
+  -- ---- joining
+
+  fronts-to : (u lo off : ℕ) (c : RangeBuf) (ds : List RangeBuf) (hi : ℕ) → Adjoin lo (c ∷ ds) hi → Fronts Cut u off (c ∷ ds) → Fronts Cut u off (joinedTo c ds)
+  fronts-to u lo off c [] hi k h = h
+  fronts-to u lo off c (d ∷ ds) hi k h =
+      cond-elim (Fronts Cut u off) (stays c d) (λ _. h)
+      (λ t. (
+        either (goes c d (k .2) t) (λ x. spent x) (λ x. either (h .0) (λ y. inl (subst Cut (omega arith) y)) (λ z. either z (λ y. spent (omega (arith, k .2))) (λ y. inr (inr (omega (arith, y .0), y .1))))),
+        fronts-weak (avail d) (avail (both c d)) off ds (λ x. omega (arith, k .2, k .3 .2)) (h .1 .1),
+      ))
+    where
+      -- all of the first was sent: the second begins as the two do
+      spent : c .pos ≡ c .len → Begin Cut u (both c d)
+      spent x =
+          either (h .1 .0) (λ y. inl (subst Cut (omega (arith, k .3 .0)) y))
+          (λ z. either z (λ y. inr (inl (omega arith))) (λ y. absurd (omega (arith, y .1))))
+
+  pub fronts-joined : (u lo off : ℕ) (cs : List RangeBuf) (hi : ℕ) → Adjoin lo cs hi → Fronts Cut u off cs → Fronts Cut u off (joined cs)
+  fronts-joined u lo off [] hi k h = h
+  fronts-joined u lo off (c ∷ cs) hi k h =
+      fronts-to u lo off c (joined cs) hi (k .0, k .1, k .2, adj-joined (end c) cs hi (k .3)) (h .0, fronts-joined (avail c) (end c) off cs hi (k .3) (h .1))
+
+  pub fronts-tabled : (u lo : ℕ) (cs : List RangeBuf) (hi : ℕ) → Adjoin lo cs hi → Fronts Cut u hi cs → Fronts Cut u hi (tabled cs)
+  fronts-tabled u lo cs hi k h = cond-elim (Fronts Cut u hi) (ltb 64 (length cs)) (λ _. fronts-joined u lo hi cs hi k h) (λ _. h)
+
   -- ---- retransmit of a..e
 
   -- a chunk moved back begins at a, or where it began, or is whole again
@@ -250,19 +277,16 @@ module _ (Cut : ℕ → Type 0) (s : Send) (g : GoodSend s) (p : Poised Cut s) w
   poised-wrote n fin =
       let k : ℕ = accepted s n in record {
         fronts =
-            fronts-append Cut 1 (s .off) (s .off + k) (s .chunks) (cut (pieces k) (s .off) k)
+            fronts-tabled Cut 1 (begin s) (longer s k) (s .off + k) (laid s g k)
+            (fronts-append Cut 1 (s .off) (s .off + k) (s .chunks) (cut (pieces k) (s .off) k)
             (λ u h. fronts-cut Cut (pieces k) (s .off) k u (s .off + k) (omega arith) (omega arith) (either h (λ x. inl (x, λ e. omega arith)) (λ x. inr x)))
-            (p .fronts);
+            (p .fronts));
         ends = p .ends;
       }
 
   pub begin-wrote : (n : ℕ) (fin : Bool) → begin (wrote s n fin) ≡ begin s
   unfolding wrote
-  begin-wrote n fin =
-      let k : ℕ = accepted s n in
-      adj-base (begin s) (s .chunks ++ cut (pieces k) (s .off) k) (s .off + k)
-      (adj-append (begin s) (s .chunks) (s .off) (cut (pieces k) (s .off) k) (s .off + k) (g .adjoin)
-      (adj-cut (pieces k) (s .off) k (omega arith) (omega arith)))
+  begin-wrote n fin = let k : ℕ = accepted s n in base-tabled (begin s) (longer s k) (s .off + k) (laid s g k)
 
   -- an emit whose frame ends at a cut
   pub poised-sent : (n : ℕ) → Cut (front s + emitCount s n) → Poised Cut (sent s n)
@@ -312,14 +336,16 @@ module _ (Cut : ℕ → Type 0) (s : Send) (g : GoodSend s) (p : Poised Cut s) w
     unfolding lost
     poised-lost c h = cond-elim (Poised Cut) (settled s a n) (λ _. p)
         (λ _. record {
-          fronts = fronts-back Cut 1 (begin s) (s .chunks) (s .off) a (a + n) (g .adjoin) c h (inr (omega arith)) (p .fronts);
+          fronts =
+              fronts-tabled Cut 1 (begin s) (back (s .chunks) a (a + n)) (s .off) (adj-back (begin s) (s .chunks) (s .off) a (a + n) (g .adjoin))
+              (fronts-back Cut 1 (begin s) (s .chunks) (s .off) a (a + n) (g .adjoin) c h (inr (omega arith)) (p .fronts));
           ends = p .ends;
         })
 
     pub begin-lost : begin (lost s a n) ≡ begin s
     unfolding lost
     begin-lost = cond-elim (λ (t : Send). begin t ≡ begin s) (settled s a n) (λ _. refl)
-        (λ _. adj-base (begin s) (back (s .chunks) a (a + n)) (s .off) (adj-back (begin s) (s .chunks) (s .off) a (a + n) (g .adjoin)))
+        (λ _. base-tabled (begin s) (back (s .chunks) a (a + n)) (s .off) (adj-back (begin s) (s .chunks) (s .off) a (a + n) (g .adjoin)))
 
     pub acked-lost : lost s a n .acked ≡ s .acked
     unfolding lost

@@ -1,4 +1,4 @@
--- Demand 3 is not empty: eleven computed schedules meet its premises (`streams-lawful`), finish, and are whole (`streams-end`), and
+-- Demand 3 is not empty: twelve computed schedules meet its premises (`streams-lawful`), finish, and are whole (`streams-end`), and
 -- `completeness` applies to one that waits to be read (`byte-by-byte`). Assumes nothing.
 use mathlib.Core.Path.{_≡_, refl, sym, ap, _∙_}
 use mathlib.Core.Logic.{inl, inr}
@@ -215,12 +215,27 @@ blocked = record {
   bytes = abc;
 }
 
+-- 65 bytes written one by one: the last joins the sender's chunks. Then a frame is lost, and an ack covers a joined chunk only in part
+abbrev singles : ℕ → List Move
+singles zero = []
+singles (suc n) = write (7 ∷ []) false ∷ singles n
+
+abbrev crowd : List Move
+crowd = singles 64 ++ emit (room 30) ∷ emit (room 70) ∷ write (7 ∷ []) true ∷ []
+
+abbrev crowded : Stream
+crowded = record {
+  setup = setup 80 80 80 80 80;
+  moves = crowd ++ lose 0 ∷ deliver 1 ∷ ackDrop 1 ∷ emit (room 70) ∷ deliver 2 ∷ ackDrop 2 ∷ emit (room 9) ∷ deliver 3 ∷ read (room 70) ∷ [];
+  bytes = replicate 65 7;
+}
+
 abbrev streams : List Stream
-streams = oneFrame ∷ zeroLength ∷ closedLater ∷ cutShort ∷ markLost ∷ lastBytesLost ∷ lateMark ∷ backwards ∷ twice ∷ journey ∷ blocked ∷ []
+streams = oneFrame ∷ zeroLength ∷ closedLater ∷ cutShort ∷ markLost ∷ lastBytesLost ∷ lateMark ∷ backwards ∷ twice ∷ journey ∷ blocked ∷ crowded ∷ []
 
 -- their setups meet the premises
 pub streams-lawful : All (λ s. Premises (s .setup)) streams
-streams-lawful = (usual, (none, (usual, (few, (usual, (usual, (usual, (usual, (usual, (small, (few, tt)))))))))))
+streams-lawful = (usual, (none, (usual, (few, (usual, (usual, (usual, (usual, (usual, (small, (few, (wide, tt))))))))))))
   where
     usual : Premises plain
     usual = premises 16 16 16 64 16 (omega arith) (omega arith) (omega arith) (omega arith) (omega arith) (omega arith) (omega arith)
@@ -230,6 +245,9 @@ streams-lawful = (usual, (none, (usual, (few, (usual, (usual, (usual, (usual, (u
 
     few : Premises (setup 4 16 4 64 16)
     few = premises 4 16 4 64 16 (omega arith) (omega arith) (omega arith) (omega arith) (omega arith) (omega arith) (omega arith)
+
+    wide : Premises (setup 80 80 80 80 80)
+    wide = premises 80 80 80 80 80 (omega arith) (omega arith) (omega arith) (omega arith) (omega arith) (omega arith) (omega arith)
 
     small : Premises (setup 8 8 8 64 8)
     small = premises 8 8 8 64 8 (omega arith) (omega arith) (omega arith) (omega arith) (omega arith) (omega arith) (omega arith)
@@ -251,6 +269,11 @@ streams-end = refl
 pub blocked-is : let x = run (fresh (blocked .setup)) stopped .snd in (x .written ≡ take 4 abc) × (send.cap (sender x) ≡ Count 0) × (sender x .blocked ≡ Some 4)
 unfolding fresh writes blocks sendBuf kept send.created send.writeJudged send.wrote send.written send.blockedAt
 blocked-is = (refl, refl, refl)
+
+-- the crowded stream, when its chunks are joined: one is left, of which all but the last byte was sent
+pub crowded-is : sender (run (fresh (crowded .setup)) crowd .snd) .chunks ≡ record { off = 0; len = 65; pos = 64 } ∷ []
+unfolding fresh writes emits sendBuf recvBuf kept held send.created send.writeJudged send.wrote send.written send.writtenArena send.sent send.emitted send.emittedOut recv.created
+crowded-is = refl
 
 -- ---- the theorem used: three frames that came backwards, and as many reads of one byte each as there are bytes and chunks kept
 

@@ -24,7 +24,8 @@ use Rattle.send_buf.specs.Rules as send
 use Rattle.send_buf.proofs.Views.{view-of}
 use Rattle.refusal.proofs.Answers.{after-elim}
 use Rattle.send_buf.proofs.Judged.{Writes, writes as writes-told}
-use Rattle.send_buf.proofs.Chunks.{adj-le, adj-base, adj-behind, adj-back, base-sent}
+use Rattle.send_buf.proofs.Chunks.{adj-le, adj-behind, adj-back, base-sent}
+use Rattle.send_buf.proofs.Joining.{base-tabled}
 use Rattle.send_buf.proofs.Facts.{skip-nothing, front-low, reached, emit-gives}
 use Rattle.send_buf.proofs.Kept.{new-good, laid, wrote-good, sent-good, acked-good, dropped-good, dropTo-in, lost-good, raised-good, blocked-good}
 use Rattle.recv_buf.specs.Rfc9000.{Frame, endOf}
@@ -84,9 +85,8 @@ module _ (W : List ℕ) (s : Send) (ar : List ℕ) (input : List ℕ) (fin : Boo
   low : lo ≤ s .off
   low = adj-le (base (s .chunks) (s .off)) (s .chunks) (s .off) (g .good .adjoin)
 
-  same-base : base (s .chunks ++ send.cut (send.pieces k) (s .off) k) (s .off + k) ≡ lo
-  same-base =
-      adj-base (base (s .chunks) (s .off)) (s .chunks ++ send.cut (send.pieces k) (s .off) k) (s .off + k) (laid s (g .good) k)
+  same-base : base (send.tabled (send.longer s k)) (s .off + k) ≡ lo
+  same-base = base-tabled (base (s .chunks) (s .off)) (send.longer s k) (s .off + k) (laid s (g .good) k)
 
   long : length (take k input) ≡ k
   long = length-take k input ∙ omega (arith, skip-nothing s (g .good) (length input))
@@ -159,7 +159,7 @@ module _ (W : List ℕ) (s : Send) (ar : List ℕ) (g : Carries W s ar) where
         some-room = g .some-room;
         size = g .size;
         agree = λ q x l.
-            g .agree q (omega (arith, adj-base (base (s .chunks) (s .off)) (send.back (s .chunks) a (a + n)) (s .off) (adj-back (base (s .chunks) (s .off)) (s .chunks) (s .off) a (a + n) (g .good .adjoin)))) l;
+            g .agree q (omega (arith, base-tabled (base (s .chunks) (s .off)) (send.back (s .chunks) a (a + n)) (s .off) (adj-back (base (s .chunks) (s .off)) (s .chunks) (s .off) a (a + n) (g .good .adjoin)))) l;
         all-written = g .all-written;
         running = g .running;
       }) (lost-good s (g .good) a n e)

@@ -226,7 +226,7 @@ long-frames-stall : (least 10 (long .snd .frames) ≡ true)
 unfolding fresh writes emits loses takes reads send.created send.written send.writeJudged send.wrote send.writtenArena send.emitted send.emittedOut send.sent send.retransmits send.lossJudged send.lost sendBufOf kept held recv.created recv.written recv.writeJudged recv.wrote recv.writtenArena recv.emitted recv.emittedOut recv.discarded recv.takeJudged recv.tookOut bufOf
 long-frames-stall = (refl, refl, refl, refl, refl)
 
--- short writes among long frames, each sent with room for 100. (Short writes alone cannot: each is one of the sender's 64 chunks)
+-- short writes among long frames, each sent with room for 100
 abbrev chatty : ℕ → List Move
 chatty zero = []
 chatty (suc n) = write (7 ∷ []) false ∷ emit (replicate 100 0) ∷ chatty n

@@ -223,7 +223,7 @@ ToSend [] o = ⊥
 ToSend (c ∷ cs) o = ((start c ≤ o) × (o < end c)) ⊎ ToSend cs o
 
 -- what an emit of k bytes at `next` does to the bytes still to send
-record Moves (cs ds : List RangeBuf) (next k : ℕ) : Type 0 where
+pub record Moves (cs ds : List RangeBuf) (next k : ℕ) : Type 0 where
   pub was : (o : ℕ) → next ≤ o → o < next + k → ToSend cs o
   pub gone : (o : ℕ) → next ≤ o → o < next + k → ToSend ds o → ⊥
   pub old : (o : ℕ) → ToSend ds o → ToSend cs o
@@ -232,7 +232,7 @@ record Moves (cs ds : List RangeBuf) (next k : ℕ) : Type 0 where
 moves-none : (cs : List RangeBuf) (next : ℕ) → Moves cs cs next 0
 moves-none cs next = record { was = λ o a b. absurd (omega arith); gone = λ o a b h. omega arith; old = λ o h. h; stay = λ o h. inl h }
 
-adj-to-send : (lo : ℕ) (cs : List RangeBuf) (hi o : ℕ) → Adjoin lo cs hi → ToSend cs o → lo ≤ o
+pub adj-to-send : (lo : ℕ) (cs : List RangeBuf) (hi o : ℕ) → Adjoin lo cs hi → ToSend cs o → lo ≤ o
 adj-to-send lo [] hi o k h = absurd h
 adj-to-send lo (c ∷ cs) hi o k (inl h) = omega (arith, k .0)
 adj-to-send lo (c ∷ cs) hi o k (inr h) = omega (arith, k .0, adj-to-send (end c) cs hi o (k .3) h)
@@ -269,7 +269,7 @@ advanced-moves lo (c ∷ cs) hi next n k = go (advanced-moves (end c) cs hi (end
           stay = λ o h. either h (λ p. inr (omega arith, omega arith)) (λ p. either (r .stay o p) (λ w. inl (inr w)) (λ w. inr (omega arith, omega arith)));
         })
 
-moves-from : (i lo : ℕ) (cs : List RangeBuf) (hi next n : ℕ) → Adjoin lo cs hi → Spent i cs → Moves cs (advancedFrom i cs next n) next (copied (drop i cs) next n)
+pub moves-from : (i lo : ℕ) (cs : List RangeBuf) (hi next n : ℕ) → Adjoin lo cs hi → Spent i cs → Moves cs (advancedFrom i cs next n) next (copied (drop i cs) next n)
 moves-from zero lo cs hi next n k s = advanced-moves lo cs hi next n k
 moves-from (suc i) lo [] hi next n k s = moves-none [] next
 moves-from (suc i) lo (c ∷ cs) hi next n k s =

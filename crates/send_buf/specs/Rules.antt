@@ -149,6 +149,33 @@ withClosed s shut error = record {
   error = error;
 }
 
+-- ---- joining neighbours, where a write or a retransmit would leave more than 64 chunks (RULES 4.10)
+
+-- the boundary between two neighbours stays exactly where the byte before it is still to be sent and the byte after it has been sent
+abbrev pub stays : RangeBuf → RangeBuf → Bool
+stays c d = ltb 0 (avail c) && ltb 0 (d .pos)
+
+-- two neighbours in one, where their boundary does not stay: what of them was sent lies in front of what is to be sent
+abbrev pub both : RangeBuf → RangeBuf → RangeBuf
+both c d = record { off = c .off; len = c .len + d .len; pos = c .pos + d .pos }
+
+-- a chunk in front of joined chunks; all chunks joined
+abbrev pub joinedTo : RangeBuf → List RangeBuf → List RangeBuf
+joinedTo c [] = c ∷ []
+joinedTo c (d ∷ ds) = cond (stays c d) (c ∷ d ∷ ds) (both c d ∷ ds)
+
+abbrev pub joined : List RangeBuf → List RangeBuf
+joined [] = []
+joined (c ∷ cs) = joinedTo c (joined cs)
+
+-- what the table is to hold: the chunks as they are, or joined if they are more than 64. The send position is then 0: the front is that of the
+-- first chunk from it on that still holds bytes, so it stays where it was
+abbrev pub tabled : List RangeBuf → List RangeBuf
+tabled cs = cond (ltb 64 (length cs)) (joined cs) cs
+
+abbrev pub tabledPos : List RangeBuf → ℕ → ℕ
+tabledPos cs pos = cond (ltb 64 (length cs)) 0 pos
+
 -- ---- creation
 
 -- a buffer with nothing written, for an arena of A bytes
@@ -202,16 +229,26 @@ abbrev pub passesFinal : OptionU64 → ℕ → Bool → Bool
 passesFinal None m fin = false
 passesFinal (Some f) m fin = ltb f m || eqb m f && not fin
 
--- accepted bytes plus off minus b exceed A
+-- accepted bytes plus off minus b exceed A. A joined chunk is held until all of it is acked, so b may be lower than without joining
 abbrev pub noRoom : Send → ℕ → Bool
 noRoom s n = ltb (s .room) (accepted s n + (s .off - base (s .chunks) (s .off)))
 
--- how many chunks n bytes take, 4,096 in each; a 65th would be needed
+-- how many chunks n bytes take, 4,096 in each
 abbrev pub pieces : ℕ → ℕ
 pieces n = (n + 4095) / 4096
 
+-- n bytes at o, cut from the front into k chunks of 4,096, the last shorter
+abbrev pub cut : ℕ → ℕ → ℕ → List RangeBuf
+cut zero o n = []
+cut (suc k) o n = fresh o (min n 4096) ∷ cut k (o + 4096) (n - 4096)
+
+-- the chunks held and those of k bytes more
+abbrev pub longer : Send → ℕ → List RangeBuf
+longer s k = s .chunks ++ cut (pieces k) (s .off) k
+
+-- more than 64 remain after joining (they never do: `never-full` in proofs/Kept.antt)
 abbrev pub noEntry : Send → ℕ → Bool
-noEntry s n = ltb 64 (length (s .chunks) + pieces (accepted s n))
+noEntry s n = ltb 64 (length (tabled (longer s (accepted s n))))
 
 -- the refusals, for an arena of a bytes
 unfoldable pub writeJudged : Send → ℕ → ℕ → Bool → Answer
@@ -223,16 +260,11 @@ writeJudged s a n fin =
     cond (noEntry s n) (Refused TableFull) (
     Done)))))
 
--- n bytes at o, cut from the front into k chunks of 4,096, the last shorter
-abbrev pub cut : ℕ → ℕ → ℕ → List RangeBuf
-cut zero o n = []
-cut (suc k) o n = fresh o (min n 4096) ∷ cut k (o + 4096) (n - 4096)
-
 -- the effect
 unfoldable pub wrote : Send → ℕ → Bool → Send
 wrote s n fin =
     let k = accepted s n in
-    withEnd (withQueue s (s .chunks ++ cut (pieces k) (s .off) k) (s .pos) (s .buffered + k))
+    withEnd (withQueue s (tabled (longer s k)) (tabledPos (longer s k) (s .pos)) (s .buffered + k))
     (s .off + k)
     (finWith (s .fin) (s .off + n) (marked s n fin))
 
@@ -391,14 +423,15 @@ settled s a n = eqb (length (s .chunks)) 0 || leb (a + n) (ackOff (s .acked))
 unfoldable pub lossJudged : Send → ℕ → ℕ → Answer
 lossJudged s a n =
     cond (neverSent s a n) (Refused NeverSent) (
-    cond (not (settled s a n) && ltb 64 (length (back (s .chunks) a (a + n)))) (Refused TableFull) (
+    cond (not (settled s a n) && ltb 64 (length (tabled (back (s .chunks) a (a + n))))) (Refused TableFull) (
     Done))
 
 -- the effect, and the answer
 unfoldable pub lost : Send → ℕ → ℕ → Send
 lost s a n =
+    let moved = back (s .chunks) a (a + n) in
     cond (settled s a n) s
-    (withQueue s (back (s .chunks) a (a + n)) (backPos (s .chunks) 0 (s .pos) a (a + n)) (s .buffered + backBytes (s .chunks) a (a + n)))
+    (withQueue s (tabled moved) (tabledPos moved (backPos (s .chunks) 0 (s .pos) a (a + n))) (s .buffered + backBytes (s .chunks) a (a + n)))
 
 abbrev pub lostBytes : Send → ℕ → ℕ → ℕ
 lostBytes s a n = cond (settled s a n) 0 (backBytes (s .chunks) a (a + n))

@@ -18,14 +18,16 @@ use Rattle.range_buf.specs.declared.RangeBuf.{RangeBuf}
 use Rattle.range_buf.specs.declared.SplitAnswer.{SplitAnswer}
 use Rattle.range_buf.specs.declared.SplitAnswer.the-variants.{Right, Refused as NoSplit}
 use Rattle.range_buf.specs.Rules.{end, zeroBuf}
+use Rattle.tables.specs.Lists.{tableOf}
 use Rattle.ranges.specs.declared.RangeSet.{RangeSet}
 use Rattle.send_buf.specs.declared.SendBuf.{SendBuf}
 use Rattle.arena.specs.Rules.{held}
 use Rattle.send_buf.specs.declared.Copied.{Copied}
+use Rattle.send_buf.specs.declared.Joined.{Joined}
 use Rattle.send_buf.specs.declared.Lost.{Lost}
 use Rattle.send_buf.specs.declared.CountOutcome.{CountOutcome}
-use Rattle.send_buf.specs.State.{Send, bufOf}
-use Rattle.send_buf.specs.Rules.{front, finished, advanced, first, emitCount, neverSent, movedBack, settled, dropCount, withQueue, withEnd, pieces, cut, passesFinal, marked, noRoom, noEntry}
+use Rattle.send_buf.specs.State.{Send, bufOf, base}
+use Rattle.send_buf.specs.Rules.{front, finished, advanced, first, emitCount, neverSent, movedBack, settled, dropCount, withQueue, withEnd, pieces, cut, longer, joined, tabled, tabledPos, passesFinal, marked, noRoom, noEntry}
 
 -- a buffer with one field changed
 abbrev pub setBlocked : SendBuf → OptionU64 → SendBuf
@@ -146,12 +148,49 @@ pub record Fits (s : Send) (n k : ℕ) : Type 0 where
   pub entries : length (s .chunks) + pieces k ≤ 64
   pub input-in : k ≤ n
 
+-- k bytes of an input of n are let in: the limit, the arena and the input have them
+pub record Admits (s : Send) (n k : ℕ) : Type 0 where
+  pub limit-in : s .off + k ≤ s .limit
+  pub room-in : k + (s .off - base (s .chunks) (s .off)) ≤ s .room
+  pub input-in : k ≤ n
+
 -- k bytes more are written, cut into chunks
 unfoldable pub grown : Send → ℕ → Send
 grown s k = withEnd (withQueue s (s .chunks ++ cut (pieces k) (s .off) k) (s .pos) (s .buffered + k)) (s .off + k) (s .fin)
 
 unfoldable pub appended : Send → ℕ → CountOutcome
 appended s k = record { answer = Count k; buf = bufOf (grown s k) }
+
+-- k bytes more, none of which was sent, join the last chunk
+abbrev pub grownBy : RangeBuf → ℕ → RangeBuf
+grownBy c k = record { off = c .off; len = c .len + k; pos = c .pos }
+
+abbrev pub grownLast : List RangeBuf → ℕ → List RangeBuf
+grownLast [] k = []
+grownLast (c ∷ []) k = grownBy c k ∷ []
+grownLast (c ∷ d ∷ ds) k = c ∷ grownLast (d ∷ ds) k
+
+-- k bytes more are written: as chunks of their own, or, if these would be more than 64, joined to the others
+unfoldable pub taking : Send → ℕ → Send
+taking s k = withEnd (withQueue s (tabled (longer s k)) (tabledPos (longer s k) (s .pos)) (s .buffered + k)) (s .off + k) (s .fin)
+
+unfoldable pub took : Send → ℕ → CountOutcome
+took s k = record { answer = Count k; buf = bufOf (taking s k) }
+
+-- the chunks l joined, if a table has room for them; else none
+abbrev pub tooMany : Joined
+tooMany = record { fits = false; count = 0; «data» = replicate 64 zeroBuf }
+
+unfoldable pub joins : List RangeBuf → Joined
+joins l =
+    cond (ltb 64 (length (joined l))) tooMany
+    (record { fits = true; count = length (joined l); «data» = tableOf zeroBuf (joined l) })
+
+-- the chunks l, joined, are those of a buffer with m bytes more to be sent; or they are too many
+unfoldable pub relists : Send → List RangeBuf → ℕ → CountOutcome
+relists s l m =
+    cond (ltb 64 (length (joined l))) (record { answer = NoCount TableFull; buf = bufOf s })
+    (record { answer = Count m; buf = bufOf (withQueue s (joined l) 0 (s .buffered + m)) })
 
 -- the first n chunks are gone, of which m bytes were still to be sent
 unfoldable pub without : Send → ℕ → ℕ → Send
@@ -178,6 +217,10 @@ relisted x l =
     cond (x .split)
     (movedFirst (x .at) (x .from) (take (x .at) l) ++ x .left ∷ x .right ∷ drop (suc (x .at)) l)
     (movedFirst (x .at) (x .from) l)
+
+-- no loss
+abbrev pub unmoved : Lost
+unmoved = record { at = 0; from = 0; split = false; left = zeroBuf; right = zeroBuf }
 
 -- its entry at i, where `here` was the one at i, and `before` the one before it
 abbrev pub relistedAt : Lost → ℕ → RangeBuf → RangeBuf → RangeBuf

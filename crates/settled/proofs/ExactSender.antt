@@ -8,8 +8,8 @@ use mathlib.Core.List.{List, [], _∷_}
 use Prim.Native.Nat.{ℕ, _+_, _-_, _≤_, _<_}
 use native.Mathlib.Omega.{arith}
 use lib.Dec.{ltb}
-use lib.ListN.{length, length-append}
-use borrow.Author.Tests.{not-true}
+use lib.ListN.{length}
+use borrow.Author.Tests.{ltb-false, not-true}
 use Rattle.refusal.specs.Rules.{M, numberOf, known}
 use Rattle.refusal.specs.declared.Refusal.{Refusal}
 use Rattle.refusal.specs.declared.Refusal.the-variants.{Offset, Stopped, FinalSize, NoRoom, TableFull, NeverSent, Done as NothingMore, BadSetup}
@@ -25,8 +25,8 @@ use Rattle.send_buf.specs.declared.Outcome.{Outcome}
 use Rattle.send_buf.specs.declared.EmitOutcome.{EmitOutcome}
 use Rattle.send_buf.specs.declared.SizesOutcome.{SizesOutcome}
 use Rattle.send_buf.specs.State.{Send, GoodSend, base}
-use Rattle.send_buf.specs.Rules.{otherArena, ackOff, badNumbers, created, marked, accepted, unlessStopped, passesFinal, pieces, cut, writeJudged, wrote, written, emitted, ackJudged, ackedMore, acks, ackDrops, back, settled, lossJudged, lost, retransmits, resets, stops, shuts, raised, cap}
-use Rattle.send_buf.proofs.Chunks.{length-cut}
+use Rattle.send_buf.specs.Rules.{otherArena, ackOff, badNumbers, created, marked, accepted, unlessStopped, passesFinal, tabled, longer, noEntry, writeJudged, wrote, written, emitted, ackJudged, ackedMore, acks, ackDrops, back, settled, lossJudged, lost, retransmits, resets, stops, shuts, raised, cap}
+use Rattle.send_buf.proofs.Kept.{never-full}
 use Rattle.settled.specs.Conditions.{_and_, _or_, OneOf, OtherArena, SameArena, Apart, Unmarked, PastFinal, past, unmarked, Moves}
 use Rattle.settled.proofs.ExactTests.{Test, less, most, same, flag, never, negated, both, any, named, is-known}
 use Rattle.settled.proofs.Exact.{Line, line, stopped, unless}
@@ -65,13 +65,10 @@ module _ (s : Send) (n : ℕ) (fin : Bool) where
       go None e = named never (λ h. absurd h, not-known e)
       go (Some x) e = named (any (less x (s .off + n)) (both (same (s .off + n) x) no-mark)) (into x e, out x e)
 
-  -- the chunks that would stand
-  stand : length (wrote s n fin .chunks) ≡ length (s .chunks) + pieces (accepted s n)
+  -- the chunks that would remain, joined if they are too many
+  no-entry : Test (noEntry s n) (64 < length (wrote s n fin .chunks)) (length (wrote s n fin .chunks) ≤ 64)
   unfolding wrote
-  stand = let k = accepted s n in length-append (s .chunks) (cut (pieces k) (s .off) k) ∙ ap (λ (i : ℕ). length (s .chunks) + i) (length-cut (pieces k) (s .off) k)
-
-  no-entry : Test (ltb 64 (length (s .chunks) + pieces (accepted s n))) (64 < length (wrote s n fin .chunks)) (length (wrote s n fin .chunks) ≤ 64)
-  no-entry = rw stand (less 64 (length (s .chunks) + pieces (accepted s n)))
+  no-entry = less 64 (length (tabled (longer s (accepted s n))))
 
 -- ---- creation (RULES 4.1)
 
@@ -118,7 +115,7 @@ module _ (s : Send) (a n : ℕ) (fin : Bool) where
       and (s .room < accepted s n + (s .off - base (s .chunks) (s .off))))
   write-no-room = write .exact NoRoom
 
-  -- TableFull exactly if more than 64 chunks would stand after it
+  -- TableFull exactly if more than 64 chunks remain after it and after joining, ..
   pub write-table-full : (written s a n fin .answer ≡ NoCount TableFull)
       ↔ (SameArena (s .room) a and (s .error ≡ None) and (¬ PastFinal s n fin)
       and (accepted s n + (s .off - base (s .chunks) (s .off)) ≤ s .room) and (64 < length (wrote s n fin .chunks)))
@@ -126,6 +123,13 @@ module _ (s : Send) (a n : ℕ) (fin : Bool) where
 
   pub write-only : (x : Refusal) → written s a n fin .answer ≡ NoCount x → OneOf (numberOf x) (10 ∷ 2 ∷ 3 ∷ 5 ∷ 6 ∷ [])
   write-only = write .others
+
+  -- .. which is never so of a buffer that came from creation or a call
+  pub write-never-full : GoodSend s → ¬ (written s a n fin .answer ≡ NoCount TableFull)
+  unfolding wrote
+  write-never-full g e =
+      let many = write-table-full .0 e .1 .1 .1 .1 in
+      omega (arith, ltb-false 64 (length (tabled (longer s (accepted s n)))) (never-full s g n))
 
 -- ---- emit (RULES 4.3): room for n bytes, an arena of a bytes
 
@@ -198,9 +202,9 @@ module _ (s : Send) (a n : ℕ) where
   abbrev Leaves65 : Type 0
   Leaves65 = Moves s (a + n) and (64 < length (lost s a n .chunks))
 
-  leaves-65 : Test (not (settled s a n) && ltb 64 (length (back (s .chunks) a (a + n)))) Leaves65 (¬ Leaves65)
+  leaves-65 : Test (not (settled s a n) && ltb 64 (length (tabled (back (s .chunks) a (a + n))))) Leaves65 (¬ Leaves65)
   unfolding lost
-  leaves-65 = named (both moves (less 64 (length (back (s .chunks) a (a + n)))))
+  leaves-65 = named (both moves (less 64 (length (tabled (back (s .chunks) a (a + n))))))
       (λ h. (h .0, rw (goes-on (h .0)) (h .1)), λ h. (h .0, rw (goes-on (h .0)) at (h .1)))
     where
       goes-on : Moves s (a + n) → settled s a n ≡ false
@@ -214,7 +218,7 @@ module _ (s : Send) (a n : ℕ) where
   pub loss-never-sent : (retransmits s a n .answer ≡ NoCount NeverSent) ↔ (s .emitted < a + n)
   loss-never-sent = loss .exact NeverSent
 
-  -- and TableFull exactly if chunks are moved back, and more than 64 would be left
+  -- and TableFull exactly if chunks are moved back, and more than 64 remain after that and after joining
   pub loss-table-full : (retransmits s a n .answer ≡ NoCount TableFull)
       ↔ ((a + n ≤ s .emitted) and Moves s (a + n) and (64 < length (lost s a n .chunks)))
   loss-table-full = loss .exact TableFull

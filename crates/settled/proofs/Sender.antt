@@ -3,7 +3,7 @@
 use mathlib.Core.Path.{refl}
 use mathlib.Core.Bool.{true, false}
 use mathlib.Core.List.{List, [], _∷_, _++_}
-use Prim.Native.Nat.{ℕ, _+_}
+use Prim.Native.Nat.{ℕ, zero, suc, _+_}
 use lib.Dec.{eqb}
 use lib.ListN.{length, replicate}
 use Rattle.refusal.specs.Rules.{M, told, toldCount, toldEmit, toldSizes, known, isAt}
@@ -48,6 +48,15 @@ empty = viewOf (written new 16 0 true .buf)
 abbrev stopped : Send
 stopped = viewOf (stops four 7 .buf)
 
+-- n bytes written one by one, of an arena of 200
+abbrev single : ℕ → Send
+single zero = viewOf (created 200 200 .buf)
+single (suc n) = viewOf (written (single n) 200 1 false .buf)
+
+-- 63 of them and two bytes more, all sent
+abbrev full : Send
+full = viewOf (emitted (viewOf (written (single 63) 200 2 false .buf)) 200 65 .buf)
+
 -- ---- how they are read off
 
 -- end of what was written, largest emitted offset, bytes to send, send position, final size, chunks
@@ -80,6 +89,11 @@ calls =
     -- write, its arena: nothing kept; kept at the front in place of `off`
     ∷ (writtenArena four (replicate 16 0) (5 ∷ 6 ∷ []) false never replicate 16 0)
     ∷ (writtenArena four (replicate 16 0) (5 ∷ 6 ∷ []) false never (5 ∷ 6 ∷ replicate 14 0))
+    -- write, the 65th chunk: refused; left unjoined; taken for sent; and the 64th, joined without need
+    ∷ (count (written (single 64) 200 1 false) never (6 ∷ []))
+    ∷ ((length (viewOf (written (single 64) 200 1 false .buf) .chunks) ∷ []) never (65 ∷ []))
+    ∷ (chunkList (viewOf (written (single 64) 200 1 false .buf) .chunks) never (0 ∷ 65 ∷ 64 ∷ []))
+    ∷ (chunkList (viewOf (written (single 63) 200 1 false .buf) .chunks) never (0 ∷ 64 ∷ 0 ∷ []))
     -- emit: always "0, not ended"; ended before the end is reached
     ∷ (bytes (emitted ten 16 4) never (0 ∷ 0 ∷ 0 ∷ []))
     ∷ (bytes (emitted closed 16 4) never (0 ∷ 4 ∷ 1 ∷ []))
@@ -106,6 +120,10 @@ calls =
     -- retransmit: the range's length, where less was sent back; an invented count
     ∷ (count (retransmits (viewOf (retransmits four 2 1 .buf)) 1 3) never (0 ∷ 3 ∷ []))
     ∷ (count (retransmits four 2 1) never (0 ∷ 2 ∷ []))
+    -- retransmit, that splits one of 64: refused; joined over the boundary that stays; what was sent to be sent again
+    ∷ (count (retransmits full 63 1) never (6 ∷ []))
+    ∷ (chunkList (viewOf (retransmits full 63 1 .buf) .chunks) never (0 ∷ 65 ∷ 64 ∷ []))
+    ∷ (chunkList (viewOf (retransmits full 63 1 .buf) .chunks) never (0 ∷ 65 ∷ 0 ∷ []))
     -- reset: the bytes never sent not counted; the stream left open
     ∷ (sizes (resets four) never (0 ∷ 4 ∷ 0 ∷ []))
     ∷ (state (viewOf (resets four .buf)) never (state four))

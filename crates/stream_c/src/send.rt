@@ -58,7 +58,7 @@ pub extern "C" fn vk_send_buf_new(max_data: u64, arena: &[u8]) -> VkSendBufOut
     send_out(SendBuf::new(max_data, arena))
 }
 
-// Accepts bytes, and keeps them in the arena; answers how many. BadSetup, Stopped, FinalSize, NoRoom, TableFull.
+// Accepts bytes, and keeps them in the arena; answers how many. BadSetup, Stopped, FinalSize, NoRoom.
 #[no_mangle]
 pub extern "C" fn vk_send_buf_write(
     buf: VkSendBuf,
