@@ -5,7 +5,7 @@
  *
  * A call is made on a thread whose stack was painted before; what is overwritten below the caller is what it took. The states that go in and
  * come back, which lie there too, are counted. Random calls give the states; each function is tried in some hundreds of them, and the most
- * counts. To be compiled with -O2 -pthread and without a sanitizer, and linked with -z now, so that finding memcpy takes no stack.
+ * counts. Now and then a send buffer is given 64 chunks, so that a write and a loss join them. To be compiled with -O2 -pthread and without a sanitizer, and linked with -z now, so that finding memcpy takes no stack.
  */
 #define _DEFAULT_SOURCE
 #include <pthread.h>
@@ -162,6 +162,13 @@ static void choose(void) {
     flag = below(200) == 0;
 }
 
+/* A send buffer with 64 chunks, all sent: the next write joins them, and so does a loss that ends inside one. */
+static void crowd(void) {
+    call_vk_send_buf_new();
+    for (int k = 0; k < 64; k++) s = vk_send_buf_write(s, arena[0], ROOM, bytes, 300, false).buf;
+    s = vk_send_buf_emit(s, arena[0], ROOM, bytes, ROOM).buf;
+}
+
 int main(int argc, char **argv) {
     bool all = argc > 1 && strcmp(argv[1], "all") == 0;
     pthread_attr_t attr;
@@ -173,6 +180,7 @@ int main(int argc, char **argv) {
     call_vk_recv_buf_new();
     for (int k = 0; k < STEPS; k++) {
         row *which = &rows[below(ROWS)];
+        if (k % 200 == 0) crowd();
         choose();
         if (!is_seldom(which->name) || below(8) == 0) measure(which, &attr);
     }

@@ -57,7 +57,7 @@ fn main() -> Result<(), Refusal> {
         if written < file.len() {
             match send.write(&file[written..file.len().min(written + 500)], false) {
                 Ok(n) => written += n,
-                Err(Refusal::NoRoom | Refusal::TableFull) => {}
+                Err(Refusal::NoRoom) => {}
                 Err(refusal) => return Err(refusal),
             }
         } else if !closed {

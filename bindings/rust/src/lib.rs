@@ -68,7 +68,7 @@ pub enum Refusal {
     FlowControl,
     /// 5: the bytes would not fit the arena.
     NoRoom,
-    /// 6: a 65th chunk or acked range would be needed.
+    /// 6: a 65th chunk or acked range would be needed; a send buffer joins chunks first.
     TableFull,
     /// 7: bytes acked or lost that were never sent.
     NeverSent,
@@ -442,7 +442,8 @@ impl<'a> SendBuf<'a> {
     }
 
     /// Writes bytes at the end, and with `fin` ends the stream behind them: a write of no bytes with `fin` closes it. Answers how
-    /// many were accepted; where the limit takes fewer, the end mark is dropped. Refuses 2, 3, 5, 6.
+    /// many were accepted; where the limit takes fewer, the end mark is dropped. Where chunks would be more than 64, neighbours are
+    /// joined; a joined chunk is held until all of it is acked. Refuses 2, 3, 5.
     pub fn write(&mut self, data: &[u8], fin: bool) -> Result<usize> {
         let out = raw::send_buf_write(self.state, self.arena.get_mut(), data, fin);
         step(out, &mut self.state).map(|(n, _)| n as usize)
@@ -479,7 +480,9 @@ impl<'a> SendBuf<'a> {
         step(raw::send_buf_ack_and_drop(self.state, off, len), &mut self.state).map(|(n, _)| n as usize)
     }
 
-    /// These bytes were lost and will be sent again. Answers how many that are. Refuses 7, 6.
+    /// These bytes were lost and will be sent again. Answers how many that are. Where chunks would be more than 64, neighbours are joined.
+    /// Refuses 7; and 6 while 63 separate lost stretches wait, each with bytes behind it that are not lost, and this would be the
+    /// 64th: emit, then report again.
     pub fn retransmit(&mut self, off: u64, len: u64) -> Result<usize> {
         step(raw::send_buf_retransmit(self.state, off, len), &mut self.state).map(|(n, _)| n as usize)
     }

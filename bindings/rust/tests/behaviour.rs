@@ -111,3 +111,87 @@ fn the_window_doubles_within_two_round_trips() {
     late.autotune_window(120, 10);
     assert_eq!((flow.window(), late.window()), (24, 16));
 }
+
+/// A send buffer with n bytes, written one by one: byte i is i mod 251.
+fn singles(n: usize) -> SendBuf<'static> {
+    let mut send = SendBuf::new(1000, 1000).unwrap();
+    for i in 0..n {
+        assert_eq!(send.write(&[(i % 251) as u8], false), Ok(1));
+    }
+    send
+}
+
+#[test]
+fn a_65th_chunk_joins_all_that_may_be_joined() {
+    let mut send = singles(64);
+    assert_eq!(send.bufs_count(), 64);
+    // The write of no bytes that closes a stream joins nothing, and is never refused.
+    assert_eq!((send.write(&[], true), send.bufs_count()), (Ok(0), 64));
+
+    let mut send = singles(65);
+    assert_eq!((send.bufs_count(), send.buffered_bytes()), (1, 65));
+    assert_eq!(send.write(&[], true), Ok(0));
+    let mut out = [0; 100];
+    assert_eq!(send.emit(&mut out), Ok((65, true)));
+    assert!(out[..65].iter().enumerate().all(|(i, b)| *b == i as u8));
+    // It is held until all of it is acked.
+    assert_eq!((send.ack_and_drop(0, 64), send.bufs_count()), (Ok(0), 1));
+    assert_eq!((send.ack_and_drop(64, 1), send.bufs_count()), (Ok(0), 0));
+    assert!(send.is_complete());
+}
+
+#[test]
+fn a_loss_is_refused_only_as_the_64th_separate_stretch() {
+    let mut send = SendBuf::new(128, 128).unwrap();
+    send.write(&[7; 128], false).unwrap();
+    send.emit(&mut [0; 128]).unwrap();
+    for i in 0..63 {
+        assert_eq!(send.retransmit(2 * i, 1), Ok(1));
+    }
+    assert_eq!((send.bufs_count(), send.buffered_bytes()), (64, 63));
+    assert_eq!(send.retransmit(126, 1), Err(Refusal::TableFull));
+    assert_eq!((send.bufs_count(), send.buffered_bytes()), (64, 63));
+    // A report that reaches what is lost already makes no stretch more; and after an emit the refused one is taken.
+    assert_eq!(send.retransmit(123, 2), Ok(1));
+    assert_eq!(send.emit(&mut [0; 9]), Ok((1, false)));
+    assert_eq!(send.retransmit(126, 1), Ok(1));
+}
+
+#[test]
+fn short_writes_over_a_link_that_loses_every_second_frame_arrive_whole() {
+    let data: Vec<u8> = (0..3000u32).map(|i| (i * i % 249) as u8).collect();
+    let mut send = SendBuf::new(3000, 1000).unwrap();
+    let mut recv = RecvBuf::new(3000, 3000, 3000).unwrap();
+    let (mut written, mut got, mut rounds) = (0, Vec::new(), 0);
+    let mut out = [0; 3000];
+    while !recv.is_fin() {
+        // Byte by byte until the arena is full: many more writes than there are chunks.
+        while written < data.len() && send.write(&data[written..written + 1], written + 1 == data.len()) == Ok(1) {
+            written += 1;
+        }
+        assert!(send.bufs_count() <= 64);
+        // All that is to be sent, in frames that end at multiples of 50, so that the receiver's table never fills (docs/OPERATORS.md).
+        // Every second one is lost; what became of them is known once all are out.
+        let (mut lost, mut turn) = (Vec::new(), rounds);
+        while send.buffered_bytes() > 0 {
+            let off = send.off_front();
+            let (n, fin) = send.emit(&mut out[..50 - off as usize % 50]).unwrap();
+            turn += 1;
+            if turn % 2 == 0 {
+                lost.push((off, n as u64));
+            } else {
+                recv.write(off, &out[..n], fin).unwrap();
+                send.ack_and_drop(off, n as u64).unwrap();
+            }
+        }
+        for (off, n) in lost {
+            assert_eq!(send.retransmit(off, n), Ok(n as usize));
+        }
+        while let Ok((n, _)) = recv.emit(&mut out) {
+            got.extend_from_slice(&out[..n]);
+        }
+        assert!(data.starts_with(&got));
+        rounds += 1;
+    }
+    assert!(got == data && rounds > 3);
+}
