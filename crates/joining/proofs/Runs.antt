@@ -18,7 +18,7 @@ use Rattle.tables.proofs.Tables.{cond-elim}
 use Rattle.tables.proofs.Tests.{either}
 use Rattle.send_buf.specs.State.{Send, base, Adjoin, Spent}
 use Rattle.send_buf.specs.Rules.{otherArena, withQueue, withEnd, withLimit, withClosed, marked, accepted, unlessStopped, passesFinal, noRoom, pieces, cut, front, first, finished, emitCount, emitPos, sent, neverSent, ackedMore, behind, dropBytes, dropTo, dropped, back, backPos, settled, unsent, wasReset, newSend, tabled, tabledPos, longer, noEntry, writeJudged, wrote, lossJudged, lost}
-use Rattle.joining.specs.Calls.{freeWriteJudged, freeWrote, freeLossJudged, freeLost, Table, joining, endless, Call, write, emit, ack, ackAndDrop, retransmit, reset, stop, shutdown, updateMaxData, updateBlockedAt, judged, next, arenaAfter, only, bit, given, Accepted, run, Begins, Part, covers, Whole}
+use Rattle.joining.specs.Calls.{freeWriteJudged, freeWrote, freeLossJudged, freeLost, Kind, joining, endless, Call, write, emit, ack, ackAndDrop, retransmit, reset, stop, shutdown, updateMaxData, updateBlockedAt, judged, next, arenaAfter, only, bit, given, Accepted, run, Begins, Part, covers, NoPart}
 use Rattle.send_buf.proofs.Chunks.{advancedFrom, adj-base, adj-sent, base-sent, length-sent, skipped-le, finished-le, adj-behind, length-behind, adj-back, length-back, backPos-le}
 use Rattle.send_buf.proofs.Position.{spent-weak, spent-append, spent-first, spent-sent, spent-behind, spent-back}
 use Rattle.send_buf.proofs.Joining.{adj-tabled, pos-tabled, spent-tabled}
@@ -117,8 +117,8 @@ module _ (s : Send) (u : Sound s) where
   sound-limit : (limit : ℕ) (blocked : OptionU64) → Sound (withLimit s limit blocked)
   sound-limit limit blocked = record { adjoin = u .adjoin; pos-in = u .pos-in; spent = u .spent }
 
--- what either table needs for the two calls that are its own
-record Keeps (t : Table) : Type 0 where
+-- what either kind needs for the two calls that are its own
+record Keeps (t : Kind) : Type 0 where
   pub wrote : (s : Send) → Sound s → (n : ℕ) (fin : Bool) → Sound (t .wrote s n fin)
   pub lost : (s : Send) → Sound s → (a n : ℕ) → Sound (t .lost s a n)
 
@@ -128,7 +128,7 @@ joining-keeps = record { wrote = sound-wrote; lost = sound-lost }
 endless-keeps : Keeps endless
 endless-keeps = record { wrote = sound-freeWrote; lost = sound-freeLost }
 
-next-sound : (t : Table) → Keeps t → (s : Send) → Sound s → (x : Call) → Sound (next t s x)
+next-sound : (t : Kind) → Keeps t → (s : Send) → Sound s → (x : Call) → Sound (next t s x)
 next-sound t k s u (write input fin) = k .wrote s u (length input) fin
 next-sound t k s u (emit out) = sound-sent s u (length out)
 next-sound t k s u (ack a n) = sound-acked s u a n
@@ -331,7 +331,7 @@ module _ (s t : Send) (r : Both s t) where
 
 -- ---- the theorem
 
-runs-same : (s t : Send) → Both s t → (ar : List ℕ) (xs : List Call) → Accepted joining s ar xs → Whole s t xs
+runs-same : (s t : Send) → Both s t → (ar : List ℕ) (xs : List Call) → Accepted joining s ar xs → NoPart s t xs
     → (run joining s ar xs ≡ run endless t ar xs) × Accepted endless t ar xs
 runs-same s t r ar [] a w = (refl, tt)
 runs-same s t r ar (x ∷ xs) a w =
@@ -348,7 +348,7 @@ runs-same s t r ar (x ∷ xs) a w =
 
 -- from creation on: whatever calls the buffer that joins accepts, the other accepts, and they give the same, as long as no ack covers a joined chunk
 -- only in part
-pub run-until-part : (A limit : ℕ) (ar : List ℕ) (xs : List Call) → Accepted joining (newSend A limit) ar xs → Whole (newSend A limit) (newSend A limit) xs
+pub run-until-part : (A limit : ℕ) (ar : List ℕ) (xs : List Call) → Accepted joining (newSend A limit) ar xs → NoPart (newSend A limit) (newSend A limit) xs
     → (run joining (newSend A limit) ar xs ≡ run endless (newSend A limit) ar xs) × Accepted endless (newSend A limit) ar xs
 run-until-part A limit =
     let s : Send = newSend A limit in

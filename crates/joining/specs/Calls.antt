@@ -46,17 +46,17 @@ freeLost s a n =
     cond (settled s a n) s
     (withQueue s (back (s .chunks) a (a + n)) (backPos (s .chunks) 0 (s .pos) a (a + n)) (s .buffered + backBytes (s .chunks) a (a + n)))
 
--- the two calls in which the tables differ: refusals and effects
-pub record Table : Type 0 where
+-- the two kinds of buffer, by the two calls in which they differ: refusals and effects
+pub record Kind : Type 0 where
   pub writeJudged : Send → ℕ → ℕ → Bool → Answer
   pub wrote : Send → ℕ → Bool → Send
   pub lossJudged : Send → ℕ → ℕ → Answer
   pub lost : Send → ℕ → ℕ → Send
 
-abbrev pub joining : Table
+abbrev pub joining : Kind
 joining = record { writeJudged = rules.writeJudged; wrote = rules.wrote; lossJudged = rules.lossJudged; lost = rules.lost }
 
-abbrev pub endless : Table
+abbrev pub endless : Kind
 endless = record { writeJudged = freeWriteJudged; wrote = freeWrote; lossJudged = freeLossJudged; lost = freeLost }
 
 -- ---- calls
@@ -74,7 +74,7 @@ pub data Call : Type 0 where
   updateBlockedAt : (blocked : OptionU64) → Call
 
 -- is it accepted, with the arena ar?
-abbrev pub judged : Table → Send → List ℕ → Call → Answer
+abbrev pub judged : Kind → Send → List ℕ → Call → Answer
 judged t s ar (write input fin) = t .writeJudged s (length ar) (length input) fin
 judged t s ar (emit out) = cond (otherArena s (length ar)) (Refused BadSetup) Done
 judged t s ar (ack a n) = ackJudged s a n
@@ -87,7 +87,7 @@ judged t s ar (updateMaxData limit) = cond (ltb M limit) (Refused Offset) Done
 judged t s ar (updateBlockedAt blocked) = Done
 
 -- the buffer after it, and the arena
-abbrev pub next : Table → Send → Call → Send
+abbrev pub next : Kind → Send → Call → Send
 next t s (write input fin) = t .wrote s (length input) fin
 next t s (emit out) = sent s (length out)
 next t s (ack a n) = ackedMore s a n
@@ -162,12 +162,12 @@ contract s ar (updateBlockedAt blocked) = record { answer = success []; buf = bl
 -- ---- runs
 
 -- each call is accepted
-abbrev pub Accepted : Table → Send → List ℕ → List Call → Type 0
+abbrev pub Accepted : Kind → Send → List ℕ → List Call → Type 0
 Accepted t s ar [] = Unit {0}
 Accepted t s ar (x ∷ xs) = (judged t s ar x ≡ Done) × Accepted t (next t s x) (arenaAfter s ar x) xs
 
 -- the buffer after them
-abbrev pub after : Table → Send → List Call → Send
+abbrev pub after : Kind → Send → List Call → Send
 after t s [] = s
 after t s (x ∷ xs) = after t (next t s x) xs
 
@@ -177,7 +177,7 @@ pub record Line : Type 0 where
   pub to-send : ℕ
   pub from : ℕ
 
-abbrev pub run : Table → Send → List ℕ → List Call → List Line
+abbrev pub run : Kind → Send → List ℕ → List Call → List Line
 run t s ar [] = []
 run t s ar (x ∷ xs) = record { gives = given s ar x; to-send = next t s x .buffered; from = front (next t s x) } ∷ run t (next t s x) (arenaAfter s ar x) xs
 
@@ -207,6 +207,6 @@ covers s (updateMaxData limit) = 0
 covers s (updateBlockedAt blocked) = 0
 
 -- s joins, t does not: no call of the run covers a joined chunk of s only in part
-abbrev pub Whole : Send → Send → List Call → Type 0
-Whole s t [] = Unit {0}
-Whole s t (x ∷ xs) = (Part (s .chunks) (t .chunks) (covers s x) → ⊥) × Whole (next joining s x) (next endless t x) xs
+abbrev pub NoPart : Send → Send → List Call → Type 0
+NoPart s t [] = Unit {0}
+NoPart s t (x ∷ xs) = (Part (s .chunks) (t .chunks) (covers s x) → ⊥) × NoPart (next joining s x) (next endless t x) xs
