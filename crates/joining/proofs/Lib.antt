@@ -7,4 +7,5 @@ pub mod Alike
 pub mod Parts
 pub mod Runs
 pub mod Tied
+mod Needed
 mod Examples
