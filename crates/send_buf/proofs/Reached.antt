@@ -2,12 +2,11 @@
 -- calls. Assumes nothing.
 use mathlib.Core.Path.{_≡_}
 use mathlib.Core.Bool.{Bool}
-use Prim.Native.Nat.{ℕ, _+_, _-_, _/_, _≤_, _<_, min}
+use Prim.Native.Nat.{ℕ, _+_, _/_, _≤_, _<_}
 use Rattle.refusal.specs.declared.OptionU64.{OptionU64}
 use Rattle.send_buf.specs.declared.SendBuf.{SendBuf}
 use Rattle.send_buf.specs.State.{viewOf, Good}
-use Rattle.send_buf.specs.Rules.{created, ackOff, accepted, written, emitted, acks, ackDrops, retransmits, resets, stops, shuts, raised, blockedAt}
-use Rattle.send_buf.proofs.Facts.{ack-le, skip-nothing}
+use Rattle.send_buf.specs.Rules.{created, written, emitted, acks, ackDrops, retransmits, resets, stops, shuts, raised, blockedAt}
 use Rattle.send_buf.proofs.Kept.{created-good, written-good, emitted-good, acks-good, ackDrops-good, retransmits-good, resets-good, stops-good, shuts-good, raisedLimit-good, blockedAt-good}
 use Rattle.send_buf.proofs.Emits.{groups, emits, all-out}
 
@@ -37,15 +36,7 @@ reached-good _ (shutdown b r) = shuts-good (viewOf b) (reached-good b r .facts)
 reached-good _ (update-max-data b limit r) = raisedLimit-good (viewOf b) (reached-good b r .facts) limit
 reached-good _ (update-blocked-at b blocked r) = blockedAt-good (viewOf b) (reached-good b r .facts) blocked
 
--- over any sequence of calls from a new buffer, resets and stops included: contiguous ack does not pass the end offset, and the skip in write
--- takes nothing
+-- so over any sequence of calls from a new buffer, resets and stops included, at most b / r + g emits leave nothing to send
 module _ (b : SendBuf) (r : Reached b) where
-  pub ack-reached : ackOff (viewOf b .acked) ≤ b .off
-  ack-reached = ack-le (viewOf b) (reached-good b r .facts)
-
-  pub skip-reached : (n : ℕ) → accepted (viewOf b) n ≡ min n (b .«max_data» - b .off)
-  skip-reached = skip-nothing (viewOf b) (reached-good b r .facts)
-
-  -- and at most b / r + g emits leave nothing to send
   pub out-reached : (room m : ℕ) → 0 < room → b .«buffered_bytes» / room + groups (viewOf b .chunks) ≤ m → emits m room (viewOf b) .buffered ≡ 0
   out-reached room m h l = all-out (viewOf b) room m (reached-good b r .facts) h l
