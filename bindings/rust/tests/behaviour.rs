@@ -43,6 +43,30 @@ fn a_stream_of_no_bytes_is_complete_only_once_acked() {
 }
 
 #[test]
+fn bytes_behind_acked_ones_are_accepted_and_a_write_of_none_closes_the_stream() {
+    let mut send = SendBuf::new(20, 8).unwrap();
+    let mut out = [0; 8];
+    assert_eq!(send.ack(0, 3), Err(Refusal::NeverSent));
+    for (off, data) in [(0, b"abc"), (3, b"def")] {
+        assert_eq!(send.write(data, false), Ok(3));
+        assert_eq!(send.emit(&mut out), Ok((3, false)));
+        assert_eq!(&out[..3], data);
+        assert_eq!(send.ack_and_drop(off, 4), Err(Refusal::NeverSent));
+        assert_eq!(send.ack_and_drop(off, 3), Ok(0));
+        // All is acked: a write of no bytes changes nothing yet.
+        assert_eq!((send.ack_off(), send.off_back()), (off + 3, off + 3));
+        assert_eq!((send.write(b"", false), send.is_fin()), (Ok(0), false));
+    }
+    assert_eq!((send.write(b"", true), send.is_fin(), send.off_back()), (Ok(0), true, 6));
+    assert_eq!(send.emit(&mut out), Ok((0, true)));
+    // Ended by a reset in its place, the stream counts as acked up to there too, and takes no byte more.
+    send.reset();
+    assert_eq!((send.ack_off(), send.off_back()), (6, 6));
+    assert_eq!(send.write(b"g", true), Err(Refusal::FinalSize));
+    assert_eq!(send.write(b"", true), Ok(0));
+}
+
+#[test]
 fn the_first_arrival_stays() {
     let mut recv = RecvBuf::new(100, 100, 64).unwrap();
     recv.write(5, b"56789", false).unwrap();

@@ -26,7 +26,7 @@ use Rattle.refusal.proofs.Answers.{after-elim}
 use Rattle.send_buf.proofs.Judged.{Writes, writes as writes-told}
 use Rattle.send_buf.proofs.Chunks.{adj-le, adj-behind, adj-back, base-sent}
 use Rattle.send_buf.proofs.Joining.{base-tabled}
-use Rattle.send_buf.proofs.Facts.{skip-nothing, front-low, reached, emit-gives}
+use Rattle.send_buf.proofs.Facts.{front-low, reached, emit-gives}
 use Rattle.send_buf.proofs.Kept.{new-good, laid, wrote-good, sent-good, acked-good, dropped-good, dropTo-in, lost-good, raised-good, blocked-good}
 use Rattle.recv_buf.specs.Rfc9000.{Frame, endOf}
 use Rattle.channel.specs.System.{SendEnd, sender, countOf, frameOf, writes, emits, raises, blocks, acks, ackDrops, loses}
@@ -89,7 +89,7 @@ module _ (W : List ℕ) (s : Send) (ar : List ℕ) (input : List ℕ) (fin : Boo
   same-base = base-tabled (base (s .chunks) (s .off)) (send.longer s k) (s .off + k) (laid s (g .good) k)
 
   long : length (take k input) ≡ k
-  long = length-take k input ∙ omega (arith, skip-nothing s (g .good) (length input))
+  long = length-take k input ∙ omega arith
 
   fits : s .off + length (take k input) ≤ lo + length ar
   fits = omega (arith, long, low, g .size, ltb-false (s .room) (k + (s .off - base (s .chunks) (s .off))) (told .room))

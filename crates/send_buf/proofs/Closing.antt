@@ -14,12 +14,11 @@ use Rattle.refusal.specs.declared.OptionU64.the-variants.{None, Some}
 use Rattle.send_buf.specs.State.{Send, base, GoodSend}
 use Rattle.send_buf.specs.Rules.{otherArena, accepted, marked, longer, joined, noRoom, writeJudged, wrote, written}
 use Rattle.tables.proofs.Tests.{undecided}
-use Rattle.send_buf.proofs.Facts.{skip-nothing}
 use Rattle.send_buf.proofs.Kept.{never-full}
 
 module _ (s : Send) (g : GoodSend s) where
   none-accepted : accepted s 0 ≡ 0
-  none-accepted = omega (arith, skip-nothing s g 0)
+  none-accepted = omega arith
 
   -- the mark is never dropped
   mark-stays : marked s 0 true ≡ true

@@ -4,12 +4,12 @@ use mathlib.Core.Path.{_≡_, refl, sym, ap, _∙_}
 use mathlib.Core.Logic.{_⊎_}
 use mathlib.Core.Bool.{Bool, true, false, cond}
 use mathlib.Core.List.{List, [], _∷_}
-use Prim.Native.Nat.{ℕ, _+_, _-_, _%_, _≤_, _<_, min}
+use Prim.Native.Nat.{ℕ, _+_, _-_, _%_, _≤_, _<_}
 use native.Mathlib.Omega.{arith}
-use lib.Dec.{ltb, leb}
+use lib.Dec.{ltb}
 use lib.ListN.{length, take, drop, getD, length-append, length-take, length-drop}
 use lib.Seq.{take-at, drop-at}
-use borrow.Author.Tests.{leb-true, ltb-false, lt-leb, le-ltb, lt-ltb}
+use borrow.Author.Tests.{ltb-false, lt-leb, le-ltb, lt-ltb}
 use Rattle.refusal.specs.Rules.{M, withCount, after, known}
 use Rattle.refusal.specs.declared.Refusal.{Refusal}
 use Rattle.refusal.specs.declared.Answer.{Answer}
@@ -46,13 +46,6 @@ module _ (s : Send) (g : GoodSend s) where
 
   pub ack-le : ackOff (s .acked) ≤ s .off
   ack-le = omega (arith, ack-emitted, g .emitted-in)
-
-  -- so the skip for data already acked takes nothing
-  pub skip-nothing : (n : ℕ) → accepted s n ≡ min n (s .limit - s .off)
-  skip-nothing n =
-      cond-elim (λ (x : ℕ). x ≡ min n (s .limit - s .off)) (leb (s .off + n) (ackOff (s .acked)))
-      (λ e. omega (arith, leb-true (s .off + n) (ackOff (s .acked)) e, ack-le))
-      (λ e. refl)
 
   -- all below the front was emitted
   pub front-emitted : front s ≤ s .emitted
@@ -185,7 +178,7 @@ length-written s ar input fin =
     refl
 
 -- the bytes held stay, and an accepted write's follow them
-module _ (s : Send) (g : GoodSend s) (ar input : List ℕ) (fin : Bool) where
+module _ (s : Send) (ar input : List ℕ) (fin : Bool) where
   pub write-held : (q n : ℕ) → base (s .chunks) (s .off) ≤ q → q + n ≤ s .off → held (writtenArena s ar input fin) q n ≡ held ar q n
   unfolding writtenArena
   write-held q n h l =
@@ -204,7 +197,7 @@ module _ (s : Send) (g : GoodSend s) (ar input : List ℕ) (fin : Bool) where
       let k : ℕ = accepted s (length input) in
       let w = writes s (length ar) (length input) fin e in
       let r : length ar ≡ s .room = right-arena (s .room) (length ar) (w .arena) .1 in
-      let n : length (take k input) ≡ k = omega (arith, length-take k input, skip-nothing s g (length input)) in
+      let n : length (take k input) ≡ k = omega (arith, length-take k input) in
       let f : length (take k input) ≤ length ar = omega (arith, ltb-false (s .room) (k + (s .off - base (s .chunks) (s .off))) (w .room)) in
       rw e (rw n at (held-kept ar (s .off) (take k input) f))
 

@@ -215,9 +215,9 @@ over s n = ltb (s .limit - s .off) n
 abbrev pub marked : Send → ℕ → Bool → Bool
 marked s n fin = not (over s n) && fin
 
--- how many bytes are accepted: n, or what the limit leaves; none of what is acked already
+-- how many bytes are accepted: n, or what the limit leaves
 abbrev pub accepted : Send → ℕ → ℕ
-accepted s n = cond (leb (s .off + n) (ackOff (s .acked))) 0 (min n (s .limit - s .off))
+accepted s n = min n (s .limit - s .off)
 
 -- after a stop, its code
 abbrev pub unlessStopped : OptionU64 → Answer → Answer

@@ -37,6 +37,10 @@ four = viewOf (emitted ten 16 4 .buf)
 abbrev acked : Send
 acked = viewOf (acks four 0 2 .buf)
 
+-- all ten sent and acked
+abbrev through : Send
+through = viewOf (ackDrops (viewOf (emitted ten 16 10 .buf)) 0 10 .buf)
+
 -- closed by a write of no bytes; and that of a new buffer
 abbrev closed : Send
 closed = viewOf (written four 16 0 true .buf)
@@ -86,6 +90,9 @@ calls =
     -- write, the closing one of no bytes: F not set; refused
     ∷ (state (viewOf (written four 16 0 true .buf)) never (state four))
     ∷ (count (written four 16 0 true) never (3 ∷ []))
+    -- write, where all before it is acked: its bytes taken for acked too; the closing one of no bytes, with F not set
+    ∷ (count (written through 16 3 false) never (0 ∷ 0 ∷ []))
+    ∷ (state (viewOf (written through 16 0 true .buf)) never (state through))
     -- write, its arena: nothing kept; kept at the front in place of `off`
     ∷ (writtenArena four (replicate 16 0) (5 ∷ 6 ∷ []) false never replicate 16 0)
     ∷ (writtenArena four (replicate 16 0) (5 ∷ 6 ∷ []) false never (5 ∷ 6 ∷ replicate 14 0))

@@ -16,7 +16,7 @@ add-result : tie.Need-add-result
 add-result c = search needs
 
 returns : tie.Need-returns
-returns c = rw (c .before .before .accepted .ensures .0, c .before .base .ensures .0)
+returns c = rw (c .before .before .accepted .ensures, c .before .base .ensures .0)
 
 pub no-room-spec : {M : Type 1} → statement M
 no-room-spec = tie.close (tie.spec accepted-requires base-requires sub-held add-result returns)
