@@ -7,6 +7,8 @@
 // A run of at most A offsets lies in at most two stretches: up to the arena's end, and on from its start. Each is copied as a whole part.
 //
 // Any arena, offset and bytes are taken. Offsets are whole numbers: the place of offset 2^64 is 2^64 mod A.
+#![tactic(auto)]
+
 ghost use Rattle.std.specs.Prelude.{◌≡◌, ◌%◌, ◌≤◌, ◌<◌, min, length};
 ghost use Rattle.arena.specs.Rules.{kept, handed};
 

@@ -3,13 +3,15 @@
 //
 // A refusal is an answer like any other. Its number is the one that docs/RULES.md, 2.1 gives it, and it travels up unchanged through every
 // module above the one that gave it.
+#![tactic(auto)]
+
 ghost use Rattle.std.specs.Prelude.{◌≡◌, ◌+◌, ◌-◌, min, max, ltb};
 ghost use Rattle.refusal.specs.Rules.{M, number_of, code_of, told, told_count, told_emit, told_sizes, with_count, with_bytes, with_sizes, known, is_at, is_other};
 
 // The largest stream offset, 2^62 - 1 (RFC 9000, 19.8).
 pub const M: u64 = 0x3fff_ffff_ffff_ffff;
 
-#[derive(Drop)]
+#[derive(Clone, Copy)]
 pub enum Refusal {
     Offset,
     Stopped(u64),
@@ -24,35 +26,35 @@ pub enum Refusal {
 }
 
 // The answer of a call that has no numbers to give.
-#[derive(Drop)]
+#[derive(Clone, Copy)]
 pub enum Answer {
     Done,
     Refused(Refusal),
 }
 
 // The answer of a call that counts bytes: accepted, dropped, moved back, given up.
-#[derive(Drop)]
+#[derive(Clone, Copy)]
 pub enum CountAnswer {
     Count(u64),
     Refused(Refusal),
 }
 
 // The answer of a call that hands bytes out: how many, and whether they reach the final size.
-#[derive(Drop)]
+#[derive(Clone, Copy)]
 pub enum EmitAnswer {
     Emitted(u64, bool),
     Refused(Refusal),
 }
 
 // The answer of a reset: two sizes.
-#[derive(Drop)]
+#[derive(Clone, Copy)]
 pub enum SizesAnswer {
     Sizes(u64, u64),
     Refused(Refusal),
 }
 
 // A number, or none: the Rust's `Option<u64>`.
-#[derive(Drop)]
+#[derive(Clone, Copy)]
 pub enum OptionU64 {
     None,
     Some(u64),
