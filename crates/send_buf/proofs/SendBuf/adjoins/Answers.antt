@@ -19,17 +19,3 @@ returns-then-not-adjoins_at c =
 pub returns-then-end-at : goal.returns-then-end-at
 returns-then-end-at c =
     rw (c.loop-i.invariant.4, front_next zero_buf c.args.self.count c.args.self.«data» c.loop-i.invariant.1 c.loop-i.i (search rules)) (sym (adjoin_long c.loop-i.at (get_or c.args.self.«data» c.loop-i.i zero_buf) (drop (c.loop-i.i + 1) (chunks_of c.args.self)) c.args.self.off (omega (arith, c.if-end-at.true))))
-
-pub loop-i-preserved : goal.loop-i-preserved
-loop-i-preserved c =
-    let e = passes c.adjoins_at.ensures (not_from_true _ c.if-not-adjoins_at.false) in (
-      search rules,
-      c.loop-i.invariant.1,
-      c.loop-i.invariant.2,
-      omega arith,
-      rw (c.loop-i.invariant.4, front_next zero_buf c.args.self.count c.args.self.«data» c.loop-i.invariant.1 c.loop-i.i (search rules)) (adjoin_more c.loop-i.at (get_or c.args.self.«data» c.loop-i.i zero_buf) (drop (c.loop-i.i + 1) (chunks_of c.args.self)) c.args.self.off e),
-    )
-
-pub returns : goal.returns
-returns c =
-    rw (c.loop-i.invariant.4, front_done zero_buf c.args.self.count c.args.self.«data» c.loop-i.invariant.1 c.loop-i.i (search rules))

@@ -9,12 +9,6 @@ use Rattle.send_buf.proofs.SendBuf.append.Goals as goal
 pub loop-at-init : goal.loop-at-init
 loop-at-init c = starts c.args.arena.now c.args.self c.args.input.now c.args.k c.requires.good c.requires.fits
 
-pub returns-in_default : goal.returns-in_default
-returns-in_default c =
-    let g = c.args in
-    let m = made_fresh (g.self.off + c.loop-at.at) c.piece-n.result c.from-made.result (omega (arith, c.loop-at.invariant.top, c.piece-n.ensures.1)) c.from-made.ensures in
-    absurd (c.in_default.not-Done m.0)
-
 pub loop-at-preserved : goal.loop-at-preserved
 loop-at-preserved c =
     let g = c.args in

@@ -15,10 +15,6 @@ returns-then-other_arena c =
     let e = emits_bad (view_of c.args.self) c.args.arena.now c.args.out.now (sym c.other_arena.ensures ∙ c.if-other_arena.true) in
     record { value = (λ j. record { answer = NoBytes BadSetup; buf = c.requires.whole j }) ∙ sym e.0; out_after = sym e.1 }
 
-pub copy_out-copied-requires : goal.copy_out-copied-requires
-copy_out-copied-requires c =
-    record { good = c.requires; from_value = (c.starts_at-front.ensures, (right_arena c.args.self.arena_len (length c.args.arena.now) (sym c.other_arena.ensures ∙ c.if-other_arena.false)).0, c.first-at.ensures.0, c.first-at.ensures.1) }
-
 pub returns-in_default : goal.returns-in_default
 returns-in_default c =
     let o = c.copy_out-copied in

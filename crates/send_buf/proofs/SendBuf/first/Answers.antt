@@ -22,11 +22,6 @@ loop-i-preserved c =
     let e = skip_on b c.requires c.loop-i.i (search rules) k in
     (search rules, c.loop-i.invariant.1, omega (arith, c.loop-i.invariant.2, e))
 
-pub returns-then-count-i : goal.returns-then-count-i
-returns-then-count-i c =
-    let e = skip_end c.args.self c.requires c.loop-i.i c.if-count-i.true in
-    (omega (arith, c.loop-i.invariant.2, e), c.loop-i.invariant.0)
-
 pub returns-then-len-gt0 : goal.returns-then-len-gt0
 returns-then-len-gt0 c =
     let b = c.args.self in

@@ -15,11 +15,6 @@ use mathlib.Core.Path.{◌∙◌, ap, sym}
 use native.Mathlib.Omega.{arith}
 use Rattle.send_buf.proofs.SendBuf.relist.Goals as goal
 
-pub loop-i-init : goal.loop-i-init
-loop-i-init c =
-    let b = c.args.self in
-    (search rules, fill_starts zero_buf b.«data» (relisted c.args.lost (view_of b).chunks) (slots b c.requires.good), λ h. absurd (omega arith))
-
 pub relisted_at-requires : goal.relisted_at-requires
 relisted_at-requires c =
     let b = c.args.self in

@@ -1,8 +1,0 @@
--- `vk_flow_control_max_data_next` meets its contract. Assumes nothing.
-use Rattle.stream_c.proofs.window.vk_flow_control_max_data_next.Goals as goal
-
-pub max_data_next-requires : goal.max_data_next-requires
-max_data_next-requires c = rw c.flow_of.ensures c.requires
-
-pub returns : goal.returns
-returns c = rw (c.max_data_next.ensures, c.flow_of.ensures)
