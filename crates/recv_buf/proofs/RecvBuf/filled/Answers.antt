@@ -26,9 +26,6 @@ loop-i-init c =
 pub off-requires : goal.off-requires
 off-requires c = chunk_good c.args.self c.requires.good c.loop-i.i (search rules)
 
-pub overflow_add-next : goal.overflow_add-next
-overflow_add-next c = omega (arith, c.loop-i.invariant.1.size, c.loop-i.invariant.1.low, c.loop-i.invariant.0)
-
 pub is_mark-requires : goal.is_mark-requires
 is_mark-requires c =
     chunk_good c.args.self c.requires.good c.loop-i.i (search rules)
@@ -77,9 +74,6 @@ loop-i-preserved c =
           (rw c.off.ensures at c.least-stop.ensures) c.if-lo-stop.false),
     )
 
-pub overflow_add-next-then-lo-hi : goal.overflow_add-next-then-lo-hi
-overflow_add-next-then-lo-hi c = omega (arith, c.loop-i.invariant.1.size, c.loop-i.invariant.1.low, c.loop-i.invariant.0)
-
 pub returns-then-at-lt64-3 : goal.returns-then-at-lt64-3
 returns-then-at-lt64-3 c =
     store_in c.loop-i.next c.chunk_of-then-at-lt64-3.result c.if-at-lt64-3.true
@@ -90,7 +84,3 @@ pub returns-else-at-lt64-3 : goal.returns-else-at-lt64-3
 returns-else-at-lt64-3 c =
     store_past c.loop-i.next (fresh c.loop-i.lo (c.args.hi - c.loop-i.lo)) c.if-at-lt64-3.false
     ∙ fills_last c.args.self c.requires.good c.args.hi c.args.from c.loop-i.next c.loop-i.lo c.loop-i.i c.loop-i.invariant.1 (search rules) c.if-lo-hi.true
-
-pub returns-else-lo-hi : goal.returns-else-lo-hi
-returns-else-lo-hi c =
-    fills_end c.args.self c.requires.good c.args.hi c.args.from c.loop-i.next c.loop-i.lo c.loop-i.i c.loop-i.invariant.1 (search rules) c.if-lo-hi.false

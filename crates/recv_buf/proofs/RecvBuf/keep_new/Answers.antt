@@ -25,10 +25,6 @@ pub off-requires : goal.off-requires
 off-requires c =
     chunk_good c.args.self c.requires.good c.loop-i.i (search rules)
 
-pub keep_run-requires : goal.keep_run-requires
-keep_run-requires c =
-    (c.loop-i.invariant.1.above, omega (arith, c.least-hi.ensures))
-
 pub max_off-requires : goal.max_off-requires
 max_off-requires c =
     chunk_good c.args.self c.requires.good c.loop-i.i (search rules)
@@ -41,9 +37,6 @@ loop-i-preserved c =
       rw (c.most-lo-in-loop-i.ensures, c.max_off.ensures, c.keep_run.ensures)
           (keeps_more c.args.self c.requires.good c.args.off c.args.input.now c.args.arena.now c.loop-i.arena c.loop-i.lo c.loop-i.i c.loop-i.invariant.1 (search rules) c.least-hi.result hi),
     )
-
-pub keep_run-requires-2 : goal.keep_run-requires-2
-keep_run-requires-2 c = (c.loop-i.invariant.1.above, search rules)
 
 pub returns : goal.returns
 returns c =

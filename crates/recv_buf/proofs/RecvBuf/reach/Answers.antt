@@ -35,7 +35,3 @@ loop-i-preserved c = (
       (takes_whole c.args.self c.requires c.args.n c.loop-i.done c.loop-i.i c.loop-i.invariant.1 (search rules) (sym c.off.ensures ∙ c.if-off-self.false) c.if-done-n.false
       (rw c.len-left.ensures at c.if-n-done.false)),
 )
-
-pub returns : goal.returns
-returns c =
-    takes_end c.args.self c.requires c.args.n c.loop-i.done c.loop-i.i c.loop-i.invariant.1 (search rules)
