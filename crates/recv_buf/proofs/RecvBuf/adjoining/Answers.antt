@@ -1,9 +1,8 @@
 -- `RecvBuf::adjoining` meets its contract. The invariant, `Adjoining`: to go on from here gives the whole. Assumes nothing.
 use mathlib.Core.Path.{sym, ◌∙◌}
-use Prim.Native.Nat.{◌-◌}
 use borrow.Author.Rules.{rules}
-use Rattle.recv_buf.proofs.Good.{few, next, chunk_good}
-use Rattle.recv_buf.proofs.Taking.{adjoins_begin, adjoins_end, adjoins_apart, adjoins_more}
+use Rattle.recv_buf.proofs.Good.{few, chunk_good}
+use Rattle.recv_buf.proofs.Taking.{adjoins_begin, adjoins_more}
 use Rattle.recv_buf.proofs.RecvBuf.adjoining.Goals as goal
 
 pub loop-i-init : goal.loop-i-init

@@ -1,9 +1,7 @@
 -- `RecvBuf::copy_out` meets its contract. The invariant, `Copying`: to go on from here gives the rest. Assumes nothing.
-use Prim.Native.Nat.{◌-◌}
-use native.Mathlib.Omega.{arith}
 use borrow.Author.Rules.{rules}
-use Rattle.recv_buf.proofs.Copying.{copies_begin, copies_end, copies_in, copies_more}
-use Rattle.recv_buf.proofs.Good.{few, done, chunk_good}
+use Rattle.recv_buf.proofs.Copying.{copies_begin, copies_in, copies_more}
+use Rattle.recv_buf.proofs.Good.{chunk_good}
 use Rattle.recv_buf.proofs.RecvBuf.copy_out.Goals as goal
 
 pub loop-done-init : goal.loop-done-init

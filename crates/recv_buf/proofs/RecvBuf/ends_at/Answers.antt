@@ -1,11 +1,7 @@
 -- `RecvBuf::ends_at` meets its contract. The invariant: to look on from here gives the answer. Assumes nothing.
-use mathlib.Core.Path.{◌≡◌, refl, sym, ◌∙◌}
-use Prim.Native.Nat.{◌-◌}
+use mathlib.Core.Path.{refl}
 use borrow.Author.Rules.{rules}
-use borrow.Author.Tests.{eq-eqb, ne_eqb}
-use lib.ListN.{get_or}
-use Rattle.range_buf.specs.Rules.{end, zero_buf}
-use Rattle.recv_buf.proofs.Good.{few, next, done, chunk_good}
+use Rattle.recv_buf.proofs.Good.{few, chunk_good}
 use Rattle.recv_buf.proofs.RecvBuf.ends_at.Goals as goal
 
 pub loop-i-init : goal.loop-i-init

@@ -1,13 +1,11 @@
 -- `RecvBuf::filled` meets its contract. The invariant, `Filling`: to list the rest from here gives the whole. Assumes nothing.
-use mathlib.Core.Logic.{⊎_elim}
 use mathlib.Core.Path.{◌≡◌, sym, ap, ◌∙◌}
 use Prim.Native.Nat.{◌-◌}
-use native.Mathlib.Omega.{arith}
 use borrow.Author.Rules.{rules}
 use lib.ListN.{get_or}
 use Rattle.range_buf.specs.Rules.{fresh, zero_buf}
 use Rattle.recv_buf.specs.Steps.{pushed}
-use Rattle.recv_buf.proofs.Filling.{Filling, fills_begin, fills_behind, fills_end, fills_last, fills_run, fills_mark, fills_chunk}
+use Rattle.recv_buf.proofs.Filling.{Filling, fills_begin, fills_behind, fills_last, fills_run, fills_mark, fills_chunk}
 use Rattle.recv_buf.proofs.Good.{few, chunk_good}
 use Rattle.recv_buf.proofs.Pushing.{store_in, store_past}
 use Rattle.recv_buf.proofs.RecvBuf.filled.Goals as goal

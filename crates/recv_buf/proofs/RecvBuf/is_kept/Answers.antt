@@ -1,12 +1,7 @@
 -- `RecvBuf::is_kept` meets its contract. The invariant: all are well kept exactly if the chunks from i on are, from lo. Assumes nothing.
-use Prim.Native.Nat.{◌+◌, ◌≤◌, ◌-◌}
-use native.Mathlib.Omega.{arith}
 use borrow.Author.Rules.{rules}
-use borrow.Author.Tests.{leb-true}
-use lib.ListN.{get_or}
-use Rattle.tables.proofs.Checks.{holds, fails, passes, front_next, front_done}
-use Rattle.range_buf.specs.Rules.{end, zero_buf}
-use Rattle.recv_buf.specs.Check.{kept_tests}
+use Rattle.tables.proofs.Checks.{fails, passes, front_next}
+use Rattle.range_buf.specs.Rules.{zero_buf}
 use Rattle.std.proofs.lemmas.Bool.{not_from_true, not_from_false}
 use Rattle.recv_buf.proofs.RecvBuf.is_kept.Goals as goal
 

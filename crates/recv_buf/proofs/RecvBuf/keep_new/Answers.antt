@@ -1,8 +1,6 @@
 -- `RecvBuf::keep_new` meets its contract. The invariant, `Keeping`: to keep what is new from here on gives the whole. Assumes nothing.
-use mathlib.Core.Logic.{⊎_elim}
 use mathlib.Core.Path.{◌≡◌, ap, ◌∙◌}
-use Prim.Native.Nat.{ℕ, ◌+◌, ◌-◌, min}
-use native.Mathlib.Omega.{arith}
+use Prim.Native.Nat.{ℕ, ◌+◌, min}
 use borrow.Author.Rules.{rules}
 use lib.ListN.{length, get_or}
 use Rattle.range_buf.specs.Rules.{start, zero_buf}

@@ -1,9 +1,8 @@
 -- `RecvBuf::reach` meets its contract. The invariant, `Taking`: to go on from here gives the whole. Assumes nothing.
 use mathlib.Core.Path.{sym, ◌∙◌}
-use Prim.Native.Nat.{◌-◌}
 use borrow.Author.Rules.{rules}
-use Rattle.recv_buf.proofs.Good.{few, done, chunk_good}
-use Rattle.recv_buf.proofs.Taking.{takes_begin, takes_end, takes_apart, takes_full, takes_part, takes_whole}
+use Rattle.recv_buf.proofs.Good.{few, chunk_good}
+use Rattle.recv_buf.proofs.Taking.{takes_begin, takes_apart, takes_full, takes_part, takes_whole}
 use Rattle.recv_buf.proofs.RecvBuf.reach.Goals as goal
 
 pub loop-i-init : goal.loop-i-init

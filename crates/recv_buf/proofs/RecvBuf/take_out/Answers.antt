@@ -2,7 +2,7 @@
 use Rattle.range_buf.specs.Rules.{consumed}
 use mathlib.Core.Path.{ap, ◌∙◌}
 use Rattle.range_buf.specs.declared.RangeBuf.{RangeBuf}
-use Rattle.recv_buf.proofs.TakingOut.{took_refused, cut_never, took_done}
+use Rattle.recv_buf.proofs.TakingOut.{took_refused, took_done}
 use Rattle.recv_buf.proofs.RecvBuf.take_out.Goals as goal
 
 pub returns-in_default : goal.returns-in_default

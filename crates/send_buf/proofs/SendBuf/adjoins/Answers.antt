@@ -1,14 +1,14 @@
 -- `SendBuf::adjoins` meets its contract. The invariant: all adjoin from lo exactly if the chunks from i on adjoin from at. Assumes nothing.
-use Prim.Native.Nat.{◌+◌, ◌-◌}
+use Prim.Native.Nat.{◌+◌}
 use native.Mathlib.Omega.{arith}
 use mathlib.Core.Path.{sym}
 use borrow.Author.Rules.{rules}
 use lib.ListN.{drop, get_or}
-use Rattle.tables.proofs.Checks.{fails, passes, front_next, front_done}
+use Rattle.tables.proofs.Checks.{fails, front_next}
 use Rattle.range_buf.specs.Rules.{zero_buf}
 use Rattle.send_buf.specs.Check.{chunks_of}
-use Rattle.send_buf.proofs.Checked.{adjoin_no, adjoin_more, adjoin_long}
-use Rattle.std.proofs.lemmas.Bool.{not_from_true, not_from_false}
+use Rattle.send_buf.proofs.Checked.{adjoin_no, adjoin_long}
+use Rattle.std.proofs.lemmas.Bool.{not_from_false}
 use Rattle.send_buf.proofs.SendBuf.adjoins.Goals as goal
 
 pub returns-then-not-adjoins_at : goal.returns-then-not-adjoins_at

@@ -1,7 +1,6 @@
 -- `SendBuf::append` meets its contract. The invariant, `Going`: to cut and keep what is left gives what the contract says. Assumes nothing.
-use Prim.Native.Nat.{◌+◌, ◌-◌}
+use Prim.Native.Nat.{◌+◌}
 use Rattle.send_buf.proofs.Cutting.{ends, grown_made, made_fresh, starts, turns}
-use Rattle.send_buf.proofs.Good.{next}
 use borrow.Author.Rules.{rules}
 use native.Mathlib.Omega.{arith}
 use Rattle.send_buf.proofs.SendBuf.append.Goals as goal

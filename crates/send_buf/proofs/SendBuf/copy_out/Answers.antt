@@ -3,7 +3,6 @@ use Prim.Native.Nat.{◌+◌, ◌-◌, ◌<◌, ◌≤◌}
 use Rattle.range_buf.specs.Rules.{avail, start, zero_buf}
 use Rattle.send_buf.proofs.Emitting.{ate, emit_starts, ends_apart, ends_behind, ends_full, entry_good, full, part}
 use Rattle.range_buf.proofs.Kept.{used_good}
-use Rattle.send_buf.proofs.Good.{done, next}
 use Rattle.send_buf.specs.Rules.{front}
 use Rattle.send_buf.specs.State.{view_of}
 use lib.Dec.{eqb, ltb}

@@ -1,9 +1,6 @@
 -- `SendBuf::emit` meets its contract. Assumes nothing.
-use Rattle.send_buf.proofs.Emitting.{counts_on, emits, emits_bad, gives, not_count, sent_in}
-use Rattle.arena.proofs.Places.{right_arena}
-use Rattle.send_buf.specs.Rules.{emit_count}
+use Rattle.send_buf.proofs.Emitting.{counts_on, emits, emits_bad, gives, sent_in}
 use Rattle.send_buf.specs.State.{view_of}
-use lib.ListN.{length}
 use mathlib.Core.Path.{◌∙◌, sym}
 use native.Mathlib.Omega.{arith}
 use Rattle.refusal.specs.declared.EmitAnswer.TheVariants.{Refused as NoBytes}

@@ -1,7 +1,7 @@
 -- `SendBuf::first` meets its contract. The invariant: to look on from here gives the index that the contract says. Assumes nothing.
-use Prim.Native.Nat.{◌-◌, ◌<◌, ◌≤◌}
+use Prim.Native.Nat.{◌<◌, ◌≤◌}
 use Rattle.range_buf.specs.Rules.{avail, zero_buf}
-use Rattle.send_buf.proofs.Asked.{skip_end, skip_here, skip_on}
+use Rattle.send_buf.proofs.Asked.{skip_here, skip_on}
 use Rattle.send_buf.proofs.Good.{chunk_good, few, pos_in}
 use borrow.Author.Rules.{rules}
 use lib.ListN.{get_or}

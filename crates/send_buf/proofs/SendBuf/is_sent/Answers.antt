@@ -1,9 +1,8 @@
 -- `SendBuf::is_sent` meets its contract. The invariant: all were sent exactly if the chunks from i on were, the first left of them whole. Assumes nothing.
-use Prim.Native.Nat.{◌-◌}
 use borrow.Author.Rules.{rules}
-use Rattle.tables.proofs.Checks.{fails, passes, front_next, front_done}
+use Rattle.tables.proofs.Checks.{passes, front_next}
 use Rattle.range_buf.specs.Rules.{zero_buf}
-use Rattle.std.proofs.lemmas.Bool.{not_from_true, not_from_false}
+use Rattle.std.proofs.lemmas.Bool.{not_from_true}
 use Rattle.send_buf.proofs.SendBuf.is_sent.Goals as goal
 
 pub loop-i-preserved : goal.loop-i-preserved

@@ -1,5 +1,4 @@
 -- `SendBuf::join` meets its contract. The invariant, `Pass`: to go on joining from here gives the joined chunks. Assumes nothing.
-use Prim.Native.Nat.{◌-◌}
 use Rattle.range_buf.specs.Rules.{zero_buf}
 use Rattle.send_buf.proofs.Good.{chunk_good, entry}
 use Rattle.send_buf.proofs.Passing.{both_fit, joins_fits, joins_full, last_good, listed, pass_ends, pass_full, pass_joins, pass_places, pass_starts, top}

@@ -2,13 +2,13 @@
 -- Assumes nothing.
 use Prim.Native.Nat.{◌+◌, ◌-◌, ℕ}
 use Rattle.range_buf.specs.Rules.{zero_buf}
-use Rattle.send_buf.proofs.Good.{acked_is, chunk_good, chunks_length, entry, made, slots, table}
+use Rattle.send_buf.proofs.Good.{acked_is, chunk_good, chunks_length, entry, made, table}
 use Rattle.send_buf.specs.Rules.{with_queue}
 use Rattle.send_buf.specs.State.{view_of}
 use Rattle.send_buf.specs.Steps.{relisted, relisted_at}
 use Rattle.send_buf.proofs.Losing.{relist_entry}
 use Rattle.range_buf.specs.declared.RangeBuf.{RangeBuf}
-use Rattle.tables.proofs.Tables.{fill_ends, fill_more, fill_starts}
+use Rattle.tables.proofs.Tables.{fill_ends, fill_more}
 use borrow.Author.Rules.{rules}
 use lib.ListN.{get_or}
 use mathlib.Core.Path.{◌∙◌, ap, sym}

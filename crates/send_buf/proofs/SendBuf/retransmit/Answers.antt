@@ -1,19 +1,14 @@
 -- `SendBuf::retransmit` meets its contract. Assumes nothing.
 use Prim.Native.Nat.{◌+◌}
-use Rattle.range_buf.specs.Rules.{zero_buf}
 use Rattle.refusal.specs.declared.CountAnswer.TheVariants.{Count}
 use Rattle.send_buf.proofs.Good.{few}
 use Rattle.send_buf.proofs.Losing.{is_lost, loss_in, loss_settled, loss_unsent, plain_bytes, plain_length, plain_list}
 use Rattle.send_buf.specs.State.{view_of}
 use Rattle.send_buf.specs.Steps.{moved_first}
-use borrow.Author.Tests.{ltb-false, ltb-true}
-use lib.Dec.{ltb}
-use lib.ListN.{get_or, length}
 use mathlib.Core.Path.{◌∙◌, sym}
 use native.Mathlib.Omega.{arith}
 use Rattle.refusal.specs.declared.CountAnswer.TheVariants.{Refused as NoCount}
 use Rattle.refusal.specs.declared.Refusal.TheVariants.{NeverSent}
-use Rattle.tables.proofs.Tests.{and_true}
 use Rattle.send_buf.proofs.SendBuf.retransmit.Goals as goal
 
 pub returns-then-passes : goal.returns-then-passes

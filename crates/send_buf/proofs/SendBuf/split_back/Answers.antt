@@ -1,14 +1,12 @@
 -- `SendBuf::split_back` meets its contract: the chunk is never too short for the split. Assumes nothing.
-use Prim.Native.Nat.{◌+◌, ◌-◌}
-use Rattle.range_buf.specs.Rules.{right_part, zero_buf}
+use Prim.Native.Nat.{◌+◌}
 use Rattle.send_buf.proofs.Good.{chunk_good, few}
-use Rattle.send_buf.proofs.Losing.{at_in, begins_low, is_lost, left_good, loss_end, loss_in, loss_joined, not_right, split_bytes, split_full, split_is, split_length, split_list}
+use Rattle.send_buf.proofs.Losing.{at_in, is_lost, loss_in, loss_joined, split_bytes, split_full, split_is, split_length, split_list}
 use Rattle.send_buf.proofs.Chunks.{adj_back}
 use Rattle.send_buf.specs.State.{Adjoin, base, view_of}
 use Rattle.send_buf.specs.Steps.{relists}
 use Rattle.range_buf.specs.declared.RangeBuf.{RangeBuf}
 use mathlib.Core.List.{List}
-use lib.ListN.{get_or}
 use mathlib.Core.Path.{◌∙◌, sym, subst}
 use native.Mathlib.Omega.{arith}
 use Rattle.send_buf.proofs.SendBuf.split_back.Goals as goal

@@ -3,10 +3,9 @@ use Prim.Native.Nat.{◌+◌}
 use Rattle.send_buf.proofs.Cutting.{took_plain}
 use Rattle.send_buf.specs.Rules.{pieces}
 use Rattle.send_buf.specs.State.{view_of}
-use borrow.Author.Tests.{ltb-false, ltb-true}
+use borrow.Author.Tests.{ltb-false}
 use lib.ListN.{length}
 use mathlib.Core.Path.{◌∙◌, sym}
-use native.Mathlib.Omega.{arith}
 use Rattle.send_buf.proofs.SendBuf.take_in.Goals as goal
 
 pub returns : goal.returns
