@@ -111,7 +111,7 @@ fn third(n: u64) -> u64 {
     n / 3
 }
 
-// Is there an argument `i`? One is, however long.
+// Is there an argument `i`, of whatever length?
 fn is_given(rt: &impl Env, i: usize) -> bool {
     let mut text = [0u8; 32];
     match rt.arg(i, &mut text) {

@@ -1,6 +1,5 @@
 -- `RecvBuf::adjoining` meets its contract. The invariant, `Adjoining`: to go on from here gives the whole. Assumes nothing.
 use Prim.Native.Nat.{◌-◌, ◌≤◌}
-use Rattle.recv_buf.proofs.Good.{next}
 use Rattle.recv_buf.proofs.Taking.{Adjoining}
 use Rattle.recv_buf.proofs.RecvBuf.adjoining.Given as goal
 

@@ -1,7 +1,6 @@
 -- `RecvBuf::copy_out` meets its contract. The invariant, `Copying`: to go on from here gives the rest. Assumes nothing.
 use Prim.Native.Nat.{◌-◌}
 use Rattle.recv_buf.proofs.Copying.{Copying}
-use Rattle.recv_buf.proofs.Good.{done}
 use Rattle.recv_buf.proofs.RecvBuf.copy_out.Given as goal
 
 abbrev pub invariant-loop-done : goal.invariant-loop-done

@@ -1,13 +1,11 @@
 -- `RecvBuf::filled` meets its contract. The invariant, `Filling`: to list the rest from here gives the whole. Assumes nothing.
-use mathlib.Core.Logic.{⊎_elim}
 use mathlib.Core.Path.{◌≡◌, sym, ap, ◌∙◌}
 use Prim.Native.Nat.{◌-◌}
-use native.Mathlib.Omega.{arith}
 use borrow.Author.Rules.{rules}
 use lib.ListN.{get_or}
 use Rattle.range_buf.specs.Rules.{fresh, zero_buf}
 use Rattle.recv_buf.specs.Steps.{pushed}
-use Rattle.recv_buf.proofs.Filling.{Filling, fills_begin, fills_behind, fills_end, fills_last, fills_run, fills_mark, fills_chunk}
+use Rattle.recv_buf.proofs.Filling.{Filling, fills_begin, fills_behind, fills_last, fills_run, fills_mark, fills_chunk}
 use Rattle.recv_buf.proofs.Good.{few, chunk_good}
 use Rattle.recv_buf.proofs.Pushing.{store_in, store_past}
 use Rattle.recv_buf.proofs.RecvBuf.filled.Goals as goal
@@ -25,9 +23,6 @@ loop-i-init c =
 
 pub off-requires : goal.off-requires
 off-requires c = chunk_good c.args.self c.requires.good c.loop-i.i (search rules)
-
-pub overflow_add-next : goal.overflow_add-next
-overflow_add-next c = omega (arith, c.loop-i.invariant.1.size, c.loop-i.invariant.1.low, c.loop-i.invariant.0)
 
 pub is_mark-requires : goal.is_mark-requires
 is_mark-requires c =
@@ -77,9 +72,6 @@ loop-i-preserved c =
           (rw c.off.ensures at c.least-stop.ensures) c.if-lo-stop.false),
     )
 
-pub overflow_add-next-then-lo-hi : goal.overflow_add-next-then-lo-hi
-overflow_add-next-then-lo-hi c = omega (arith, c.loop-i.invariant.1.size, c.loop-i.invariant.1.low, c.loop-i.invariant.0)
-
 pub returns-then-at-lt64-3 : goal.returns-then-at-lt64-3
 returns-then-at-lt64-3 c =
     store_in c.loop-i.next c.chunk_of-then-at-lt64-3.result c.if-at-lt64-3.true
@@ -90,7 +82,3 @@ pub returns-else-at-lt64-3 : goal.returns-else-at-lt64-3
 returns-else-at-lt64-3 c =
     store_past c.loop-i.next (fresh c.loop-i.lo (c.args.hi - c.loop-i.lo)) c.if-at-lt64-3.false
     ∙ fills_last c.args.self c.requires.good c.args.hi c.args.from c.loop-i.next c.loop-i.lo c.loop-i.i c.loop-i.invariant.1 (search rules) c.if-lo-hi.true
-
-pub returns-else-lo-hi : goal.returns-else-lo-hi
-returns-else-lo-hi c =
-    fills_end c.args.self c.requires.good c.args.hi c.args.from c.loop-i.next c.loop-i.lo c.loop-i.i c.loop-i.invariant.1 (search rules) c.if-lo-hi.false

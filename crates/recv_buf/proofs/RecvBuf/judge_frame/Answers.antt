@@ -2,14 +2,12 @@
 -- the arena is the right one, the frame ends at or below M, and within the limit
 use Rattle.refusal.specs.declared.Refusal.TheVariants.{Offset}
 use mathlib.Core.Path.{sym, ◌∙◌}
-use mathlib.Core.Bool.{false}
 use Prim.Native.Nat.{◌+◌}
 use native.Mathlib.Omega.{arith}
 use borrow.Author.Tests.{lt-ltb, le-ltb, ltb-false}
 use lib.Dec.{ltb}
 use Rattle.refusal.specs.Rules.{M}
 use Rattle.recv_buf.specs.State.{view_of}
-use Rattle.recv_buf.specs.Rules.{other_arena}
 use Rattle.recv_buf.proofs.Judging.{first_passed, chunk_answer}
 use Rattle.recv_buf.proofs.Writing.{frame_bad, frame_offset, frame_over, frame_final, frame_room, frame_done}
 use Rattle.recv_buf.proofs.RecvBuf.judge_frame.Goals as goal

@@ -2,7 +2,7 @@
 -- the size is no larger than M where the chunk was made
 use Rattle.refusal.specs.declared.Refusal.TheVariants.{Offset}
 use mathlib.Core.Path.{◌≡◌, sym, ◌∙◌}
-use mathlib.Core.Bool.{false, cond}
+use mathlib.Core.Bool.{cond}
 use native.Mathlib.Nat.{add-zero}
 use lib.Dec.{ltb}
 use Rattle.refusal.specs.Rules.{M}

@@ -1,8 +1,6 @@
 -- `RecvBuf::keep_new` meets its contract. The invariant, `Keeping`: to keep what is new from here on gives the whole. Assumes nothing.
-use mathlib.Core.Logic.{⊎_elim}
 use mathlib.Core.Path.{◌≡◌, ap, ◌∙◌}
-use Prim.Native.Nat.{ℕ, ◌+◌, ◌-◌, min}
-use native.Mathlib.Omega.{arith}
+use Prim.Native.Nat.{ℕ, ◌+◌, min}
 use borrow.Author.Rules.{rules}
 use lib.ListN.{length, get_or}
 use Rattle.range_buf.specs.Rules.{start, zero_buf}
@@ -25,10 +23,6 @@ pub off-requires : goal.off-requires
 off-requires c =
     chunk_good c.args.self c.requires.good c.loop-i.i (search rules)
 
-pub keep_run-requires : goal.keep_run-requires
-keep_run-requires c =
-    (c.loop-i.invariant.1.above, omega (arith, c.least-hi.ensures))
-
 pub max_off-requires : goal.max_off-requires
 max_off-requires c =
     chunk_good c.args.self c.requires.good c.loop-i.i (search rules)
@@ -41,9 +35,6 @@ loop-i-preserved c =
       rw (c.most-lo-in-loop-i.ensures, c.max_off.ensures, c.keep_run.ensures)
           (keeps_more c.args.self c.requires.good c.args.off c.args.input.now c.args.arena.now c.loop-i.arena c.loop-i.lo c.loop-i.i c.loop-i.invariant.1 (search rules) c.least-hi.result hi),
     )
-
-pub keep_run-requires-2 : goal.keep_run-requires-2
-keep_run-requires-2 c = (c.loop-i.invariant.1.above, search rules)
 
 pub returns : goal.returns
 returns c =

@@ -1,7 +1,7 @@
 -- `RecvBuf::left_over` meets its contract. The invariant: to push what is left gives all chunks from `from` on. Assumes nothing.
 use mathlib.Core.Path.{◌≡◌, sym, ap, ◌∙◌}
 use mathlib.Core.List.{[], ◌∷◌}
-use Prim.Native.Nat.{◌+◌, ◌-◌}
+use Prim.Native.Nat.{◌+◌}
 use native.Mathlib.Omega.{arith}
 use borrow.Author.Rules.{rules}
 use lib.ListN.{drop, get_or}
@@ -37,9 +37,3 @@ returns-then-from-count c =
     let p : t ≡ listed (get_or b.«data» c.args.from zero_buf ∷ drop (c.args.from + 1) (view_of b).chunks) =
     ap (pushed_all t) (sym (done b c.requires c.loop-i.i (search rules))) ∙ c.loop-i.invariant.2 ∙ ap listed x in
     rw (p, x) (front_listed c.args.first (get_or b.«data» c.args.from zero_buf) (drop (c.args.from + 1) (view_of b).chunks))
-
-pub returns-else-from-count : goal.returns-else-from-count
-returns-else-from-count c =
-    let b = c.args.self in
-    let d = done b c.requires c.args.from c.if-from-count.false in
-    ap (pushed_all c.loop-i.next) (sym (done b c.requires c.loop-i.i (search rules))) ∙ c.loop-i.invariant.2 ∙ rw d

@@ -4,7 +4,6 @@ use Prim.Native.Nat.{◌+◌, ◌-◌, ◌≤◌}
 use lib.ListN.{drop}
 use Rattle.recv_buf.specs.State.{view_of}
 use Rattle.recv_buf.specs.Steps.{listed, pushed_all}
-use Rattle.recv_buf.proofs.Good.{next}
 use Rattle.recv_buf.proofs.RecvBuf.left_over.Given as goal
 
 abbrev pub invariant-loop-i : goal.invariant-loop-i

@@ -1,9 +1,8 @@
 -- `RecvBuf::reach` meets its contract. The invariant, `Taking`: to go on from here gives the whole. Assumes nothing.
 use mathlib.Core.Path.{sym, ◌∙◌}
-use Prim.Native.Nat.{◌-◌}
 use borrow.Author.Rules.{rules}
-use Rattle.recv_buf.proofs.Good.{few, done, chunk_good}
-use Rattle.recv_buf.proofs.Taking.{takes_begin, takes_end, takes_apart, takes_full, takes_part, takes_whole}
+use Rattle.recv_buf.proofs.Good.{few, chunk_good}
+use Rattle.recv_buf.proofs.Taking.{takes_begin, takes_apart, takes_full, takes_part, takes_whole}
 use Rattle.recv_buf.proofs.RecvBuf.reach.Goals as goal
 
 pub loop-i-init : goal.loop-i-init
@@ -35,7 +34,3 @@ loop-i-preserved c = (
       (takes_whole c.args.self c.requires c.args.n c.loop-i.done c.loop-i.i c.loop-i.invariant.1 (search rules) (sym c.off.ensures ∙ c.if-off-self.false) c.if-done-n.false
       (rw c.len-left.ensures at c.if-n-done.false)),
 )
-
-pub returns : goal.returns
-returns c =
-    takes_end c.args.self c.requires c.args.n c.loop-i.done c.loop-i.i c.loop-i.invariant.1 (search rules)

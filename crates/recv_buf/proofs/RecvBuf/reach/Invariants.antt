@@ -1,6 +1,5 @@
 -- `RecvBuf::reach` meets its contract. The invariant, `Taking`: to go on from here gives the whole. Assumes nothing.
 use Prim.Native.Nat.{◌-◌, ◌≤◌}
-use Rattle.recv_buf.proofs.Good.{done}
 use Rattle.recv_buf.proofs.Taking.{Taking}
 use Rattle.recv_buf.proofs.RecvBuf.reach.Given as goal
 

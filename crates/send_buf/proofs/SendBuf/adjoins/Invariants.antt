@@ -2,7 +2,6 @@
 use Prim.Native.Nat.{◌≤◌, ◌-◌}
 use mathlib.Core.Path.{◌≡◌}
 use lib.ListN.{length, take, drop}
-use Rattle.range_buf.specs.Rules.{end}
 use Rattle.send_buf.specs.Check.{adjoin_by}
 use Rattle.send_buf.proofs.SendBuf.adjoins.Given as goal
 

@@ -1,19 +1,12 @@
 -- `SendBuf::append` meets its contract. The invariant, `Going`: to cut and keep what is left gives what the contract says. Assumes nothing.
-use Prim.Native.Nat.{◌+◌, ◌-◌}
+use Prim.Native.Nat.{◌+◌}
 use Rattle.send_buf.proofs.Cutting.{ends, grown_made, made_fresh, starts, turns}
-use Rattle.send_buf.proofs.Good.{next}
 use borrow.Author.Rules.{rules}
 use native.Mathlib.Omega.{arith}
 use Rattle.send_buf.proofs.SendBuf.append.Goals as goal
 
 pub loop-at-init : goal.loop-at-init
 loop-at-init c = starts c.args.arena.now c.args.self c.args.input.now c.args.k c.requires.good c.requires.fits
-
-pub returns-in_default : goal.returns-in_default
-returns-in_default c =
-    let g = c.args in
-    let m = made_fresh (g.self.off + c.loop-at.at) c.piece-n.result c.from-made.result (omega (arith, c.loop-at.invariant.top, c.piece-n.ensures.1)) c.from-made.ensures in
-    absurd (c.in_default.not-Done m.0)
 
 pub loop-at-preserved : goal.loop-at-preserved
 loop-at-preserved c =

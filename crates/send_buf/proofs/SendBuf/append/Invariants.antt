@@ -1,7 +1,6 @@
 -- `SendBuf::append` meets its contract. The invariant, `Going`: to cut and keep what is left gives what the contract says. Assumes nothing.
 use Prim.Native.Nat.{◌-◌}
 use Rattle.send_buf.proofs.Cutting.{Going}
-use Rattle.send_buf.proofs.Good.{next}
 use Rattle.send_buf.proofs.SendBuf.append.Given as goal
 
 abbrev pub invariant-loop-at : goal.invariant-loop-at

@@ -19,9 +19,6 @@ loop-i-init c = let z : c.args.n - 0 ≡ c.args.n = omega arith in (search rules
 pub moved_to-back-requires : goal.moved_to-back-requires
 moved_to-back-requires c = chunk_good c.args.self c.requires.good c.loop-i.i (search rules)
 
-pub overflow_sub-bytes : goal.overflow_sub-bytes
-overflow_sub-bytes c = c.moved_to-back.ensures.1
-
 pub overflow_add-bytes : goal.overflow_add-bytes
 overflow_add-bytes c =
     let m = c.moved_to-back in

@@ -3,7 +3,6 @@ use Prim.Native.Nat.{◌+◌, ◌-◌, ◌<◌, ◌≤◌}
 use Rattle.range_buf.specs.Rules.{avail, start, zero_buf}
 use Rattle.send_buf.proofs.Emitting.{ate, emit_starts, ends_apart, ends_behind, ends_full, entry_good, full, part}
 use Rattle.range_buf.proofs.Kept.{used_good}
-use Rattle.send_buf.proofs.Good.{done, next}
 use Rattle.send_buf.specs.Rules.{front}
 use Rattle.send_buf.specs.State.{view_of}
 use lib.Dec.{eqb, ltb}
@@ -15,9 +14,6 @@ use Rattle.send_buf.proofs.SendBuf.copy_out.Goals as goal
 
 pub loop-i-init : goal.loop-i-init
 loop-i-init c = emit_starts c.args.arena.now c.args.out.now c.args.self c.requires.good c.args.at c.requires.from_value.2 c.requires.from_value.3
-
-pub overflow_add-from : goal.overflow_add-from
-overflow_add-from c = let v = c.loop-i in omega (arith, v.invariant.reach, c.requires.from_value.0)
 
 pub goes_on-requires : goal.goes_on-requires
 goes_on-requires c =
@@ -36,12 +32,6 @@ consume-eaten-requires c =
     let b = c.args.self in
     let v = c.loop-i in
     entry_good c.args.arena.now c.args.out.now b c.requires.good v.out v.next v.i v.done v.invariant c.loop-i-test.true
-
-pub returns-in_default : goal.returns-in_default
-returns-in_default c =
-    let o = c.consume-eaten in
-    let d = c.drain-k in
-    absurd (c.in_default.not-Done (ate (get_or c.loop-i.next.«data» c.loop-i.i zero_buf) d.result o.result d.ensures.value.2 o.ensures).0)
 
 pub len-requires : goal.len-requires
 len-requires c =

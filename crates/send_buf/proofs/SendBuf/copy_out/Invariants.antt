@@ -1,7 +1,6 @@
 -- `SendBuf::copy_out` meets its contract. The invariant, `Emitting`: to copy on from here gives what the contract says. Assumes nothing.
 use Prim.Native.Nat.{◌-◌}
 use Rattle.send_buf.proofs.Emitting.{Emitting}
-use Rattle.send_buf.proofs.Good.{done, next}
 use Rattle.send_buf.proofs.SendBuf.copy_out.Given as goal
 
 abbrev pub invariant-loop-i : goal.invariant-loop-i

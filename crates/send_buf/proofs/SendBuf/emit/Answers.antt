@@ -1,9 +1,6 @@
 -- `SendBuf::emit` meets its contract. Assumes nothing.
-use Rattle.send_buf.proofs.Emitting.{counts_on, emits, emits_bad, gives, not_count, sent_in}
-use Rattle.arena.proofs.Places.{right_arena}
-use Rattle.send_buf.specs.Rules.{emit_count}
+use Rattle.send_buf.proofs.Emitting.{counts_on, emits, emits_bad, gives, sent_in}
 use Rattle.send_buf.specs.State.{view_of}
-use lib.ListN.{length}
 use mathlib.Core.Path.{◌∙◌, sym}
 use native.Mathlib.Omega.{arith}
 use Rattle.refusal.specs.declared.EmitAnswer.TheVariants.{Refused as NoBytes}
@@ -14,10 +11,6 @@ pub returns-then-other_arena : goal.returns-then-other_arena
 returns-then-other_arena c =
     let e = emits_bad (view_of c.args.self) c.args.arena.now c.args.out.now (sym c.other_arena.ensures ∙ c.if-other_arena.true) in
     record { value = (λ j. record { answer = NoBytes BadSetup; buf = c.requires.whole j }) ∙ sym e.0; out_after = sym e.1 }
-
-pub copy_out-copied-requires : goal.copy_out-copied-requires
-copy_out-copied-requires c =
-    record { good = c.requires; from_value = (c.starts_at-front.ensures, (right_arena c.args.self.arena_len (length c.args.arena.now) (sym c.other_arena.ensures ∙ c.if-other_arena.false)).0, c.first-at.ensures.0, c.first-at.ensures.1) }
 
 pub returns-in_default : goal.returns-in_default
 returns-in_default c =

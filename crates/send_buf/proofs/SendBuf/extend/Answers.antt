@@ -60,9 +60,6 @@ bounds-data-last-2 c =
     let e = joined_now b c.requires.good c.args.k n c.requires.admits c.requires.in_bounds c.no_loss.result c.join-out.result c.no_loss.ensures c.join-out.ensures in
     omega (arith, (count_in b c.requires.good c.args.k n c.requires.admits c.requires.in_bounds c.join-out.result e).1)
 
-pub overflow_add-next : goal.overflow_add-next
-overflow_add-next c = omega (arith, c.requires.admits.limit_in, c.requires.good.facts.limit_in)
-
 pub overflow_add-next-2 : goal.overflow_add-next-2
 overflow_add-next-2 c =
     let b = c.args.self in

@@ -1,7 +1,7 @@
 -- `SendBuf::first` meets its contract. The invariant: to look on from here gives the index that the contract says. Assumes nothing.
-use Prim.Native.Nat.{◌-◌, ◌<◌, ◌≤◌}
+use Prim.Native.Nat.{◌<◌, ◌≤◌}
 use Rattle.range_buf.specs.Rules.{avail, zero_buf}
-use Rattle.send_buf.proofs.Asked.{skip_end, skip_here, skip_on}
+use Rattle.send_buf.proofs.Asked.{skip_here, skip_on}
 use Rattle.send_buf.proofs.Good.{chunk_good, few, pos_in}
 use borrow.Author.Rules.{rules}
 use lib.ListN.{get_or}
@@ -21,11 +21,6 @@ loop-i-preserved c =
     let k : avail (get_or b.«data» c.loop-i.i zero_buf) ≤ 0 = omega (arith, c.len.ensures) in
     let e = skip_on b c.requires c.loop-i.i (search rules) k in
     (search rules, c.loop-i.invariant.1, omega (arith, c.loop-i.invariant.2, e))
-
-pub returns-then-count-i : goal.returns-then-count-i
-returns-then-count-i c =
-    let e = skip_end c.args.self c.requires c.loop-i.i c.if-count-i.true in
-    (omega (arith, c.loop-i.invariant.2, e), c.loop-i.invariant.0)
 
 pub returns-then-len-gt0 : goal.returns-then-len-gt0
 returns-then-len-gt0 c =

@@ -1,15 +1,9 @@
 -- `SendBuf::is_sent` meets its contract. The invariant: all were sent exactly if the chunks from i on were, the first left of them whole. Assumes nothing.
-use Prim.Native.Nat.{◌-◌}
 use borrow.Author.Rules.{rules}
-use Rattle.tables.proofs.Checks.{fails, passes, front_next, front_done}
+use Rattle.tables.proofs.Checks.{passes, front_next}
 use Rattle.range_buf.specs.Rules.{zero_buf}
-use Rattle.std.proofs.lemmas.Bool.{not_from_true, not_from_false}
+use Rattle.std.proofs.lemmas.Bool.{not_from_true}
 use Rattle.send_buf.proofs.SendBuf.is_sent.Goals as goal
-
-pub returns-then-not-was_sent : goal.returns-then-not-was_sent
-returns-then-not-was_sent c =
-    let e = fails c.was_sent.ensures (not_from_false _ c.if-not-was_sent.true) in
-    rw (c.loop-i.invariant.3, front_next zero_buf c.args.self.count c.args.self.«data» c.loop-i.invariant.1 c.loop-i.i (search rules)) (simp e)
 
 pub loop-i-preserved : goal.loop-i-preserved
 loop-i-preserved c =
@@ -19,7 +13,3 @@ loop-i-preserved c =
       c.loop-i.invariant.2,
       rw (c.loop-i.invariant.3, front_next zero_buf c.args.self.count c.args.self.«data» c.loop-i.invariant.1 c.loop-i.i (search rules), c.one_less-left.ensures) (simp e),
     )
-
-pub returns : goal.returns
-returns c =
-    rw (c.loop-i.invariant.3, front_done zero_buf c.args.self.count c.args.self.«data» c.loop-i.invariant.1 c.loop-i.i (search rules))

@@ -1,5 +1,4 @@
 -- `SendBuf::join` meets its contract. The invariant, `Pass`: to go on joining from here gives the joined chunks. Assumes nothing.
-use Prim.Native.Nat.{◌-◌}
 use Rattle.range_buf.specs.Rules.{zero_buf}
 use Rattle.send_buf.proofs.Good.{chunk_good, entry}
 use Rattle.send_buf.proofs.Passing.{both_fit, joins_fits, joins_full, last_good, listed, pass_ends, pass_full, pass_joins, pass_places, pass_starts, top}
@@ -9,9 +8,6 @@ use mathlib.Core.Bool.{true}
 use mathlib.Core.Path.{◌∙◌, sym}
 use native.Mathlib.Omega.{arith}
 use Rattle.send_buf.proofs.SendBuf.join.Goals as goal
-
-pub entry-before-requires : goal.entry-before-requires
-entry-before-requires c = c.requires.good
 
 pub relisted_at-last-requires : goal.relisted_at-last-requires
 relisted_at-last-requires c =
@@ -26,9 +22,6 @@ loop-i-init c =
     pass_starts (relisted x (view_of b).chunks) (view_of b).chunks (base (view_of b).chunks b.off) b.off (omega (arith, c.requires.at_le_count.1, c.requires.at_le_count.2)) c.requires.adjoin c.relisted_at-last.result e.result
     (listed b g x c.requires.at_le_count.0 0 e.result zero_buf c.relisted_at-last.result e.ensures (λ h. absurd (omega arith)) c.relisted_at-last.ensures)
     (e.ensures ∙ sym (entry b g 0))
-
-pub entry-here-requires : goal.entry-here-requires
-entry-here-requires c = c.requires.good
 
 pub relisted_at-buf-requires : goal.relisted_at-buf-requires
 relisted_at-buf-requires c =

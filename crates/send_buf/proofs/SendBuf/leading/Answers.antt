@@ -1,5 +1,4 @@
 -- `SendBuf::leading` meets its contract. The invariant: to count and add up on from here gives what the contract says. Assumes nothing.
-use Prim.Native.Nat.{◌-◌}
 use Rattle.send_buf.proofs.Dropping.{bytes_in, drop_end, drop_here, drop_on}
 use Rattle.send_buf.proofs.Good.{chunk_good, few}
 use borrow.Author.Rules.{rules}

@@ -2,23 +2,18 @@
 -- Assumes nothing.
 use Prim.Native.Nat.{◌+◌, ◌-◌, ℕ}
 use Rattle.range_buf.specs.Rules.{zero_buf}
-use Rattle.send_buf.proofs.Good.{acked_is, chunk_good, chunks_length, entry, made, slots, table}
+use Rattle.send_buf.proofs.Good.{acked_is, chunk_good, chunks_length, entry, made, table}
 use Rattle.send_buf.specs.Rules.{with_queue}
 use Rattle.send_buf.specs.State.{view_of}
 use Rattle.send_buf.specs.Steps.{relisted, relisted_at}
 use Rattle.send_buf.proofs.Losing.{relist_entry}
 use Rattle.range_buf.specs.declared.RangeBuf.{RangeBuf}
-use Rattle.tables.proofs.Tables.{fill_ends, fill_more, fill_starts}
+use Rattle.tables.proofs.Tables.{fill_ends, fill_more}
 use borrow.Author.Rules.{rules}
 use lib.ListN.{get_or}
 use mathlib.Core.Path.{◌∙◌, ap, sym}
 use native.Mathlib.Omega.{arith}
 use Rattle.send_buf.proofs.SendBuf.relist.Goals as goal
-
-pub loop-i-init : goal.loop-i-init
-loop-i-init c =
-    let b = c.args.self in
-    (search rules, fill_starts zero_buf b.«data» (relisted c.args.lost (view_of b).chunks) (slots b c.requires.good), λ h. absurd (omega arith))
 
 pub relisted_at-requires : goal.relisted_at-requires
 relisted_at-requires c =

@@ -1,19 +1,14 @@
 -- `SendBuf::retransmit` meets its contract. Assumes nothing.
 use Prim.Native.Nat.{◌+◌}
-use Rattle.range_buf.specs.Rules.{zero_buf}
 use Rattle.refusal.specs.declared.CountAnswer.TheVariants.{Count}
 use Rattle.send_buf.proofs.Good.{few}
 use Rattle.send_buf.proofs.Losing.{is_lost, loss_in, loss_settled, loss_unsent, plain_bytes, plain_length, plain_list}
 use Rattle.send_buf.specs.State.{view_of}
 use Rattle.send_buf.specs.Steps.{moved_first}
-use borrow.Author.Tests.{ltb-false, ltb-true}
-use lib.Dec.{ltb}
-use lib.ListN.{get_or, length}
 use mathlib.Core.Path.{◌∙◌, sym}
 use native.Mathlib.Omega.{arith}
 use Rattle.refusal.specs.declared.CountAnswer.TheVariants.{Refused as NoCount}
 use Rattle.refusal.specs.declared.Refusal.TheVariants.{NeverSent}
-use Rattle.tables.proofs.Tests.{and_true}
 use Rattle.send_buf.proofs.SendBuf.retransmit.Goals as goal
 
 pub returns-then-passes : goal.returns-then-passes
@@ -21,29 +16,10 @@ returns-then-passes c =
     let e = loss_unsent (view_of c.args.self) c.args.off c.args.len (sym c.passes.ensures ∙ c.if-passes.true) in
     (λ j. record { answer = NoCount NeverSent; buf = c.requires.whole j }) ∙ sym e
 
-pub overflow_add-end : goal.overflow_add-end
-overflow_add-end c = omega (arith, ltb-false c.args.self.emit_off (c.args.off + c.args.len) (sym c.passes.ensures ∙ c.if-passes.false))
-
 pub returns-then-settled : goal.returns-then-settled
 returns-then-settled c =
     let e = loss_settled (view_of c.args.self) c.args.off c.args.len (sym c.passes.ensures ∙ c.if-passes.false) (sym c.settled.ensures ∙ c.if-settled.true) in
     (λ j. record { answer = Count 0; buf = c.requires.whole j }) ∙ sym e
-
-pub split_back-requires : goal.split_back-requires
-split_back-requires c =
-    let b = c.args.self in
-    let d = c.drop_count-at in
-    let l = (view_of b).chunks in
-    let t = and_true (ltb d.result (length l)) (ltb (get_or l d.result zero_buf).off (c.args.off + c.args.len)) (sym c.begins_below.ensures ∙ c.if-begins_below.true) in record {
-      good = c.requires;
-      inside = record {
-        was_sent_lem = (sym c.passes.ensures ∙ c.if-passes.false);
-        unsettled = (sym c.settled.ensures ∙ c.if-settled.false);
-        index = d.ensures.0;
-        there = ltb-true d.result (length l) t.0;
-        begins = ltb-true (get_or l d.result zero_buf).off (c.args.off + c.args.len) t.1;
-      };
-    }
 
 pub relist-requires : goal.relist-requires
 relist-requires c =

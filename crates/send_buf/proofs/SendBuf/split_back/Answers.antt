@@ -1,29 +1,15 @@
 -- `SendBuf::split_back` meets its contract: the chunk is never too short for the split. Assumes nothing.
-use Prim.Native.Nat.{◌+◌, ◌-◌}
-use Rattle.range_buf.specs.Rules.{right_part, zero_buf}
+use Prim.Native.Nat.{◌+◌}
 use Rattle.send_buf.proofs.Good.{chunk_good, few}
-use Rattle.send_buf.proofs.Losing.{at_in, begins_low, is_lost, left_good, loss_end, loss_in, loss_joined, not_right, split_bytes, split_full, split_is, split_length, split_list}
+use Rattle.send_buf.proofs.Losing.{at_in, is_lost, loss_in, loss_joined, split_bytes, split_full, split_is, split_length, split_list}
 use Rattle.send_buf.proofs.Chunks.{adj_back}
 use Rattle.send_buf.specs.State.{Adjoin, base, view_of}
 use Rattle.send_buf.specs.Steps.{relists}
 use Rattle.range_buf.specs.declared.RangeBuf.{RangeBuf}
 use mathlib.Core.List.{List}
-use lib.ListN.{get_or}
 use mathlib.Core.Path.{◌∙◌, sym, subst}
 use native.Mathlib.Omega.{arith}
 use Rattle.send_buf.proofs.SendBuf.split_back.Goals as goal
-
-pub overflow_add-end : goal.overflow_add-end
-overflow_add-end c = omega (arith, loss_end c.args.self c.requires.good c.args.at c.args.off c.args.len c.requires.inside, c.requires.good.facts.emitted_in, c.requires.good.facts.limited, c.requires.good.facts.limit_in)
-
-pub offset_bounds-self-at : goal.offset_bounds-self-at
-offset_bounds-self-at c = omega (arith, at_in c.args.self c.requires.good c.args.at c.args.off c.args.len c.requires.inside, few c.args.self c.requires.good)
-
-pub bounds-self-at : goal.bounds-self-at
-bounds-self-at c = omega (arith, at_in c.args.self c.requires.good c.args.at c.args.off c.args.len c.requires.inside, few c.args.self c.requires.good)
-
-pub overflow_sub-end : goal.overflow_sub-end
-overflow_sub-end c = omega (arith, begins_low c.args.self c.requires.good c.args.at c.args.off c.args.len c.requires.inside)
 
 pub split_off-out-requires : goal.split_off-out-requires
 split_off-out-requires c = chunk_good c.args.self c.requires.good c.args.at (at_in c.args.self c.requires.good c.args.at c.args.off c.args.len c.requires.inside)
@@ -33,19 +19,6 @@ returns-in_default c =
     let o = c.split_off-out in
     let e = (split_is c.args.self c.requires.good c.args.at c.args.off c.args.len c.requires.inside o.result o.ensures).0 in
     cc
-
-pub moved_to-back-requires : goal.moved_to-back-requires
-moved_to-back-requires c =
-    let o = c.split_off-out in
-    rw (split_is c.args.self c.requires.good c.args.at c.args.off c.args.len c.requires.inside o.result o.ensures).1 (left_good c.args.self c.requires.good c.args.at c.args.off c.args.len c.requires.inside)
-
-pub back_bytes-requires : goal.back_bytes-requires
-back_bytes-requires c = record { good = c.requires.good; n_le_count = omega (arith, at_in c.args.self c.requires.good c.args.at c.args.off c.args.len c.requires.inside) }
-
-pub overflow_add-bytes : goal.overflow_add-bytes
-overflow_add-bytes c =
-    let e = split_bytes c.args.self c.requires.good c.args.at c.args.off c.args.len c.requires.inside c.split_off-out.result c.split_off-out.ensures c.moved_to-back.result c.in-Right.right c.moved_to-back.ensures.0 c.in-Right.is c.back_bytes.result c.back_bytes.ensures.0 in
-    omega (arith, e, loss_in (view_of c.args.self) c.requires.good.facts c.args.off (c.args.off + c.args.len))
 
 pub relist_joined-requires : goal.relist_joined-requires
 relist_joined-requires c =
