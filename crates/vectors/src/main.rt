@@ -8,6 +8,8 @@
 // the rules'; any other differs. Lines that begin with `#` and empty ones are skipped.
 //
 // Any bytes may stand on standard input. A line that is no call is counted as not understood, and one of 8,192 bytes or more as differing.
+#![tactic(auto)]
+
 mod case;
 mod chunk;
 mod names;
