@@ -1,6 +1,6 @@
 //! Finds the static library of the proved crates, or has it made: VALEMKHOR_LIB names the folder that holds libstream_c.a; without it the
-//! library is proved and built in the tree that this crate stands in, by tools/staticlib, for this machine's processor. That is done again
-//! whenever something in crates/ has changed, so what is linked is never older than the sources.
+//! library is proved and built in the tree that this crate stands in, by tools/staticlib, as x86-64 code. That is done again whenever something
+//! in crates/ has changed, so what is linked is never older than the sources.
 
 use std::path::Path;
 use std::path::PathBuf;
