@@ -13,7 +13,6 @@
 mod case;
 mod chunk;
 mod names;
-mod numerals;
 mod objects;
 mod page;
 mod reader;

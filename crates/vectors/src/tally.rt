@@ -1,5 +1,4 @@
 // What is counted, and the closing table. A count that would pass 64 bits stands still.
-use super::numerals;
 use std::io::{Print, Stdout};
 
 #[derive(Clone, Copy)]
@@ -152,7 +151,7 @@ pub fn say(out: Stdout, text: &[u8]) {
 
 pub fn counted(out: Stdout, n: u64, text: &[u8]) {
     let mut digits = [0u8; 20];
-    let k = numerals::decimal(n, &mut digits);
+    let k = io::decimal(n, &mut digits);
     say(out, &digits[..k]);
     say(out, text);
 }

@@ -1,2 +1,0 @@
--- Lemmas of the program.
-mod Powers
