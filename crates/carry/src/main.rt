@@ -5,6 +5,8 @@
 //
 // The last line on standard error is the verdict: `carry: whole and equal`, or another that begins with `carry: NOT`. The script `carry` at
 // the top of the repository goes by it.
+#![tactic(auto)]
+
 mod calls;
 mod credit;
 mod refusals;
@@ -18,21 +20,30 @@ ghost use Rattle.carry.specs.Sound.{Sound};
 
 use run::Run;
 use settings::{Asked, Settings};
+use std::io::Stderr;
+use std::rt::Clock;
 use tally::Tally;
 use text::say;
 
-fn main() {
-    let what = settings::from_arguments();
+fn main(rt: HostRuntime) {
+    let err = rt.stderr();
+    let what = settings::from_arguments(&rt, err);
     let Asked::For(set) = what else {
         return;
     };
     let mut sa = [0u8; 65536];
     let mut ra = [0u8; 65536];
-    arenas(set, &mut sa, &mut ra);
+    arenas(&rt, err, set, &mut sa, &mut ra);
 }
 
 // Lends as much of the arenas as was asked for.
-fn arenas(set: Settings, sa: &mut [u8], ra: &mut [u8]) {
+fn arenas(
+    rt: &(impl Input + Print + Clock),
+    err: Stderr,
+    set: Settings,
+    sa: &mut [u8],
+    ra: &mut [u8],
+) {
     let s = set.send_arena as usize;
     let r = set.recv_arena as usize;
     if sa.len() < s {
@@ -41,18 +52,33 @@ fn arenas(set: Settings, sa: &mut [u8], ra: &mut [u8]) {
     if ra.len() < r {
         return;
     }
-    carry(set, &mut sa[0..s], &mut ra[0..r]);
+    carry(rt, err, set, &mut sa[0..s], &mut ra[0..r]);
 }
 
 // The whole job.
-fn carry(set: Settings, sa: &mut [u8], ra: &mut [u8]) {
-    let run = begin(set, sa, ra);
+fn carry(
+    rt: &(impl Input + Print + Clock),
+    err: Stderr,
+    set: Settings,
+    sa: &mut [u8],
+    ra: &mut [u8],
+) {
+    let run = begin(rt, set, sa, ra);
     let mut window = [0u8; 4096];
     let mut bytes = [0u8; 9600];
     let mut out = [0u8; 65536];
     let w = piece(sa.len(), run.size);
-    let ended = rounds(run, sa, ra, &mut window[0..w], &mut bytes, &mut out);
-    summary(ended);
+    let ended = rounds(
+        rt,
+        err,
+        run,
+        sa,
+        ra,
+        &mut window[0..w],
+        &mut bytes,
+        &mut out,
+    );
+    summary(err, ended);
 }
 
 // The length of the input window. The chunk of which a part waits for the rest of its frame keeps its room: two windows and a frame fit into
@@ -70,7 +96,7 @@ fn piece(room: usize, size: usize) -> usize
     w
 }
 
-fn summary(ended: Run)
+fn summary(err: Stderr, ended: Run)
     requires { Sound ended }
 {
     let send = ended.send;
@@ -79,36 +105,43 @@ fn summary(ended: Run)
     let sender = send.fin_off;
     let receiver = recv.fin_off;
     let whole = ended.is_done();
-    tally.table(ended.size, sender, receiver, whole);
+    tally.table(err, ended.size, sender, receiver, whole);
     if !whole {
-        stall(ended);
+        stall(err, ended);
     }
-    tally::tell(tally.verdict(sender, receiver, whole));
+    tally::tell(err, tally.verdict(sender, receiver, whole));
 }
 
 // What a run that did not come to its end waits for, and why in vain.
-fn stall(ended: Run)
+fn stall(err: Stderr, ended: Run)
     requires { Sound ended }
 {
     if ended.broken {
         return;
     }
     let tally = ended.tally;
-    say(b"carry: STALLED: the reader waits for byte ");
-    text::number(ended.recv.off_front());
+    say(err, b"carry: STALLED: the reader waits for byte ");
+    text::number(err, ended.recv.off_front());
     if ended.is_stuck() {
-        say(b", and all 64 entries of the receive table hold what lies behind it:\n");
-        say(b"carry: each frame that brings it is refused TableFull (6), for ever\n");
+        say(
+            err,
+            b", and all 64 entries of the receive table hold what lies behind it:\n",
+        );
+        say(
+            err,
+            b"carry: each frame that brings it is refused TableFull (6), for ever\n",
+        );
     } else {
-        say(b", and no byte was handed out in a million rounds\n");
+        say(err, b", and no byte was handed out in a million rounds\n");
     }
-    tally.refusals.tell_last();
+    tally.refusals.tell_last(err);
     say(
+        err,
         b"carry: docs/OPERATORS.md says how to choose the sizes: the receive arena at most 63 times the frame size\n",
     );
 }
 
-fn begin(set: Settings, sa: &[u8], ra: &[u8]) -> Run
+fn begin(rt: &impl Clock, set: Settings, sa: &[u8], ra: &[u8]) -> Run
     ensures { Sound result }
 {
     let all = ra.len() as u64;
@@ -124,7 +157,7 @@ fn begin(set: Settings, sa: &[u8], ra: &[u8]) -> Run
         recv,
         conn,
         frames: [none; 8],
-        tally: Tally::new(),
+        tally: Tally::new(rt),
         dice: run::rolled(set.seed),
         loss: set.loss,
         again: set.again,
@@ -141,6 +174,8 @@ fn begin(set: Settings, sa: &[u8], ra: &[u8]) -> Run
 // Round after round, until all is carried or there is no hope. A proved loop has to end, so it counts down, from a number that no run
 // uses up.
 fn rounds(
+    rt: &(impl Input + Print + Clock),
+    err: Stderr,
     run: Run,
     sa: &mut [u8],
     ra: &mut [u8],
@@ -154,7 +189,7 @@ fn rounds(
     let mut next = run;
     let mut left = u64::MAX;
     while left > 0 && next.goes_on() {
-        next = next.round(sa, ra, window, bytes, out);
+        next = next.round(rt, err, sa, ra, window, bytes, out);
         left -= 1;
     }
     next

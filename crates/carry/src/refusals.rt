@@ -6,6 +6,7 @@ use crate::tally::more;
 use crate::text;
 use crate::text::say;
 use refusal::Refusal;
+use std::io::Stderr;
 
 // The calls.
 pub const WRITE: usize = 0;
@@ -18,7 +19,7 @@ pub const ACK: usize = 3;
 
 pub const OTHER: usize = 4;
 
-#[derive(Drop)]
+#[derive(Clone, Copy)]
 pub struct Refusals {
     // At call * 11 + number.
     pub counts: [u64; 55],
@@ -54,68 +55,68 @@ impl Refusals {
     }
 
     // A line of the closing table for each kind that occurred.
-    pub fn table(self) {
+    pub fn table(self, err: Stderr) {
         let mut i: usize = 0;
         while i < 55 {
-            row(i, self.counts[i]);
+            row(err, i, self.counts[i]);
             i += 1;
         }
     }
 
     // The last refusal of each call.
-    pub fn tell_last(self) {
+    pub fn tell_last(self, err: Stderr) {
         let mut call: usize = 0;
         while call < 5 {
-            last_of(call, self.last[call], self.rounds[call]);
+            last_of(err, call, self.last[call], self.rounds[call]);
             call += 1;
         }
     }
 }
 
-fn row(i: usize, count: u64) {
+fn row(err: Stderr, i: usize, count: u64) {
     if count == 0 {
         return;
     }
     match i / 11 {
-        WRITE => say(b"  writes refused, "),
-        FRAME => say(b"  frames refused, "),
-        LOSS => say(b"  losses refused, "),
-        ACK => say(b"  acks refused,   "),
-        _ => say(b"  calls refused,  "),
+        WRITE => say(err, b"  writes refused, "),
+        FRAME => say(err, b"  frames refused, "),
+        LOSS => say(err, b"  losses refused, "),
+        ACK => say(err, b"  acks refused,   "),
+        _ => say(err, b"  calls refused,  "),
     }
-    name(i % 11);
-    text::line(b"", count);
+    name(err, i % 11);
+    text::line(err, b"", count);
 }
 
-fn last_of(call: usize, number: u64, round: u64) {
+fn last_of(err: Stderr, call: usize, number: u64, round: u64) {
     if number == 0 {
         return;
     }
     match call {
-        WRITE => say(b"  last write refused:       "),
-        FRAME => say(b"  last frame refused:       "),
-        LOSS => say(b"  last loss report refused: "),
-        ACK => say(b"  last ack refused:         "),
-        _ => say(b"  last other call refused:  "),
+        WRITE => say(err, b"  last write refused:       "),
+        FRAME => say(err, b"  last frame refused:       "),
+        LOSS => say(err, b"  last loss report refused: "),
+        ACK => say(err, b"  last ack refused:         "),
+        _ => say(err, b"  last other call refused:  "),
     }
-    name(number as usize);
-    say(b"in round ");
-    text::number(round);
-    say(b"\n");
+    name(err, number as usize);
+    say(err, b"in round ");
+    text::number(err, round);
+    say(err, b"\n");
 }
 
 // The name and number of a refusal, at 16 places.
-fn name(number: usize) {
+fn name(err: Stderr, number: usize) {
     match number {
-        1 => say(b"Offset (1)      "),
-        2 => say(b"Stopped (2)     "),
-        3 => say(b"FinalSize (3)   "),
-        4 => say(b"FlowControl (4) "),
-        5 => say(b"NoRoom (5)      "),
-        6 => say(b"TableFull (6)   "),
-        7 => say(b"NeverSent (7)   "),
-        8 => say(b"Done (8)        "),
-        9 => say(b"Reset (9)       "),
-        _ => say(b"BadSetup (10)   "),
+        1 => say(err, b"Offset (1)      "),
+        2 => say(err, b"Stopped (2)     "),
+        3 => say(err, b"FinalSize (3)   "),
+        4 => say(err, b"FlowControl (4) "),
+        5 => say(err, b"NoRoom (5)      "),
+        6 => say(err, b"TableFull (6)   "),
+        7 => say(err, b"NeverSent (7)   "),
+        8 => say(err, b"Done (8)        "),
+        9 => say(err, b"Reset (9)       "),
+        _ => say(err, b"BadSetup (10)   "),
     }
 }

@@ -18,13 +18,14 @@ use crate::tally::Tally;
 use crate::text::say;
 use crate::{calls, credit, refusals};
 use flowcontrol::FlowControl;
-use libc::{STDIN_FILENO, STDOUT_FILENO};
 use recv_buf::RecvBuf;
 use refusal::{Answer, CountAnswer, EmitAnswer, Refusal};
 use send_buf::SendBuf;
+use std::io::{Read, Stderr};
+use std::rt::Clock;
 
 // A frame in flight, or a free slot.
-#[derive(Drop)]
+#[derive(Clone, Copy)]
 pub struct Frame {
     pub busy: bool,
     pub off: u64,
@@ -35,7 +36,7 @@ pub struct Frame {
     pub known: bool,
 }
 
-#[derive(Drop)]
+#[derive(Clone, Copy)]
 pub struct Run {
     pub send: SendBuf,
     pub recv: RecvBuf,
@@ -65,6 +66,8 @@ impl Run {
     // One round.
     pub fn round(
         self,
+        rt: &(impl Input + Print + Clock),
+        err: Stderr,
         sa: &mut [u8],
         ra: &mut [u8],
         window: &mut [u8],
@@ -74,43 +77,57 @@ impl Run {
         requires { Sound self }
         ensures { Sound result }
     {
-        let sent = self.outward(sa, window, bytes);
-        sent.inward(ra, bytes, out)
+        let sent = self.outward(rt, err, sa, window, bytes);
+        sent.inward(rt, err, ra, bytes, out)
     }
 
     // The sender's half: from the input into the channel.
-    fn outward(self, sa: &mut [u8], window: &mut [u8], bytes: &mut [u8]) -> Run
+    fn outward(
+        self,
+        rt: &impl Input,
+        err: Stderr,
+        sa: &mut [u8],
+        window: &mut [u8],
+        bytes: &mut [u8],
+    ) -> Run
         requires { Sound self }
         ensures { Sound result }
     {
-        let fed = self.written_on(sa, window);
+        let fed = self.written_on(rt, err, sa, window);
         fed.loaded(sa, bytes)
     }
 
-    fn written_on(self, sa: &mut [u8], window: &mut [u8]) -> Run
+    fn written_on(self, rt: &impl Input, err: Stderr, sa: &mut [u8], window: &mut [u8]) -> Run
         requires { Sound self }
         ensures { Sound result }
     {
-        let read = self.refilled(window);
+        let read = self.refilled(rt, err, window);
         read.fed(sa, window)
     }
 
     // The receiver's half: from the channel to the output.
-    fn inward(self, ra: &mut [u8], bytes: &[u8], out: &mut [u8]) -> Run
+    fn inward(
+        self,
+        rt: &(impl Print + Clock),
+        err: Stderr,
+        ra: &mut [u8],
+        bytes: &[u8],
+        out: &mut [u8],
+    ) -> Run
         requires { Sound self }
         ensures { Sound result }
     {
         let moved = self.moved(ra, bytes);
-        let handed = moved.handed(ra, out);
-        handed.closed_round()
+        let handed = moved.handed(rt, err, ra, out);
+        handed.closed_round(rt, err)
     }
 
-    fn closed_round(self) -> Run
+    fn closed_round(self, rt: &impl Clock, err: Stderr) -> Run
         requires { Sound self }
         ensures { Sound result }
     {
         let credited = self.credited();
-        credited.counted()
+        credited.counted(rt, err)
     }
 
     // Is there something left to do, and hope that it gets done?
@@ -154,12 +171,12 @@ impl Run {
         false
     }
 
-    fn counted(self) -> Run
+    fn counted(self, rt: &impl Clock, err: Stderr) -> Run
         requires { Sound self }
         ensures { Sound result }
     {
         let mut next = self;
-        let t = self.tally.round().progress();
+        let t = self.tally.round().progress(rt, err);
         next.tally = t;
         next
     }
@@ -168,7 +185,7 @@ impl Run {
 
     // Reads on until the window is full or the input has ended. A frame waits until all of it is written, and each write takes an entry of
     // the send table: the few bytes that a pipe gives at a time would use it up first.
-    fn refilled(self, window: &mut [u8]) -> Run
+    fn refilled(self, rt: &impl Input, err: Stderr, window: &mut [u8]) -> Run
         requires { Sound self }
         ensures { Sound result }
     {
@@ -179,14 +196,13 @@ impl Run {
         if window.len() < have {
             return self;
         }
-        let got = libc::read(STDIN_FILENO, &mut window[have..]);
+        let got = read_once(rt, &mut window[have..]);
         let mut next = self;
-        if got < 0 {
-            say(b"carry: standard input cannot be read\n");
+        let Some(n) = got else {
+            say(err, b"carry: standard input cannot be read\n");
             next.broken = true;
             return next;
-        }
-        let n = io::count(got, &window[have..]);
+        };
         next.have = sum(have, n);
         next.ended = n == 0;
         next
@@ -533,7 +549,7 @@ impl Run {
     // ---- the output
 
     // Hands out what is ready, to standard output.
-    fn handed(self, ra: &[u8], out: &mut [u8]) -> Run
+    fn handed(self, rt: &impl Print, err: Stderr, ra: &[u8], out: &mut [u8]) -> Run
         requires { Sound self }
         ensures { Sound result }
     {
@@ -552,19 +568,19 @@ impl Run {
         if out.len() < k {
             return next;
         }
-        next.given(&out[0..k])
+        next.given(rt, err, &out[0..k])
     }
 
-    fn given(self, bytes: &[u8]) -> Run
+    fn given(self, rt: &impl Print, err: Stderr, bytes: &[u8]) -> Run
         requires { Sound self }
         ensures { Sound result }
     {
         let mut next = self.spent(bytes.len() as u64);
         let t = next.tally.gave(bytes);
         next.tally = t;
-        next.broken = !io::write_all(STDOUT_FILENO, bytes);
+        next.broken = !write_whole(rt, bytes);
         if next.broken {
-            say(b"carry: standard output cannot be written\n");
+            say(err, b"carry: standard output cannot be written\n");
         }
         next
     }
@@ -663,6 +679,16 @@ impl Run {
         next.dice = rolled(self.dice);
         next
     }
+}
+
+// Reads standard input once, and answers how many bytes it gave: 0 at its end, None where it cannot be read.
+fn read_once(rt: &impl Input, room: &mut [u8]) -> Option<usize> {
+    rt.reader().read(room).ok()
+}
+
+// Writes the bytes to standard output. Did it take all?
+fn write_whole(rt: &impl Print, bytes: &[u8]) -> bool {
+    rt.write_all(bytes).is_ok()
 }
 
 fn are_free(frames: [Frame; 8]) -> bool

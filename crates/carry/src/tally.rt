@@ -6,8 +6,10 @@ use crate::refusals::Refusals;
 use crate::text;
 use crate::text::say;
 use refusal::{OptionU64, Refusal};
+use std::io::Stderr;
+use std::rt::Clock;
 
-#[derive(Drop)]
+#[derive(Clone, Copy)]
 pub struct Tally {
     // Bytes that the send buffer took, and that the receive buffer handed out, with a checksum of each.
     pub taken: u64,
@@ -26,7 +28,7 @@ pub struct Tally {
     pub told: i64,
 }
 
-#[derive(Drop)]
+#[derive(Clone, Copy)]
 pub enum Verdict {
     NotWhole,
     NotEqual,
@@ -34,7 +36,7 @@ pub enum Verdict {
 }
 
 impl Tally {
-    pub fn new() -> Tally {
+    pub fn new(rt: &impl Clock) -> Tally {
         Tally {
             taken: 0,
             taken_sum: 0,
@@ -46,7 +48,7 @@ impl Tally {
             refusals: Refusals::none(),
             rounds: 0,
             idle: 0,
-            told: second(),
+            told: second(rt),
         }
     }
 
@@ -98,39 +100,47 @@ impl Tally {
     }
 
     // At most one line a second.
-    pub fn progress(self) -> Tally {
-        let now = second();
+    pub fn progress(self, rt: &impl Clock, err: Stderr) -> Tally {
+        let now = second(rt);
         if now == self.told {
             return self;
         }
-        say(b"carry: so far ");
-        text::number(self.given);
-        say(b" bytes in ");
-        text::number(self.rounds);
-        say(b" rounds\n");
+        say(err, b"carry: so far ");
+        text::number(err, self.given);
+        say(err, b" bytes in ");
+        text::number(err, self.rounds);
+        say(err, b" rounds\n");
         let mut t = self;
         t.told = now;
         t
     }
 
     // The closing table. `frame` is the frame size; `whole` says that the stream came to its end.
-    pub fn table(self, frame: usize, sender: OptionU64, receiver: OptionU64, whole: bool) {
-        text::line(b"  bytes read                      ", self.taken);
-        text::line(b"  bytes handed out                ", self.given);
-        text::line(b"  frame size                      ", frame as u64);
-        text::line(b"  frames sent                     ", self.sent);
-        text::line(b"  frames lost                     ", self.lost);
-        text::line(b"  frames repeated                 ", self.repeated);
-        self.refusals.table();
-        text::line(b"  rounds                          ", self.rounds);
-        size(b"  final size at the sender        ", sender);
-        size(b"  final size at the receiver      ", receiver);
-        text::answer(b"  the stream came to its end      ", whole);
+    pub fn table(
+        self,
+        err: Stderr,
+        frame: usize,
+        sender: OptionU64,
+        receiver: OptionU64,
+        whole: bool,
+    ) {
+        text::line(err, b"  bytes read                      ", self.taken);
+        text::line(err, b"  bytes handed out                ", self.given);
+        text::line(err, b"  frame size                      ", frame as u64);
+        text::line(err, b"  frames sent                     ", self.sent);
+        text::line(err, b"  frames lost                     ", self.lost);
+        text::line(err, b"  frames repeated                 ", self.repeated);
+        self.refusals.table(err);
+        text::line(err, b"  rounds                          ", self.rounds);
+        size(err, b"  final size at the sender        ", sender);
+        size(err, b"  final size at the receiver      ", receiver);
+        text::answer(err, b"  the stream came to its end      ", whole);
         text::answer(
+            err,
             b"  final sizes are the bytes       ",
             self.sizes(sender, receiver),
         );
-        text::answer(b"  checksums are the same          ", self.sums());
+        text::answer(err, b"  checksums are the same          ", self.sums());
     }
 
     // The verdict on a run. `whole` says that the stream came to its end.
@@ -175,11 +185,11 @@ impl Tally {
     }
 }
 
-pub fn tell(verdict: Verdict) {
+pub fn tell(err: Stderr, verdict: Verdict) {
     match verdict {
-        Verdict::NotWhole => say(b"carry: NOT WHOLE\n"),
-        Verdict::NotEqual => say(b"carry: NOT EQUAL\n"),
-        Verdict::WholeAndEqual => say(b"carry: whole and equal\n"),
+        Verdict::NotWhole => say(err, b"carry: NOT WHOLE\n"),
+        Verdict::NotEqual => say(err, b"carry: NOT EQUAL\n"),
+        Verdict::WholeAndEqual => say(err, b"carry: whole and equal\n"),
     }
 }
 
@@ -212,16 +222,18 @@ fn wide(byte: u8) -> u64
     byte as u64
 }
 
-fn size(what: &[u8], size: OptionU64) {
+fn size(err: Stderr, what: &[u8], size: OptionU64) {
     let OptionU64::Some(n) = size else {
-        text::unknown(what);
+        text::unknown(err, what);
         return;
     };
-    text::line(what, n);
+    text::line(err, what, n);
 }
 
-// The clock's second.
-fn second() -> i64 {
-    let mut t: i64 = 0;
-    libc::time(&mut t)
+// The clock's second, or -1 where there is none to be had.
+fn second(rt: &impl Clock) -> i64 {
+    match rt.since_1970() {
+        Ok(since) => i64::try_from(since.as_secs()).unwrap_or(-1),
+        Err(_) => -1,
+    }
 }

@@ -1,49 +1,50 @@
 // Text on standard error: words, numbers with a comma before each three digits, and the lines of a table.
 ghost use Rattle.std.specs.Prelude.{◌<◌};
 
-use libc::STDERR_FILENO;
+use std::io::Stderr;
 
-pub fn say(text: &[u8]) {
-    io::write_all(STDERR_FILENO, text);
+// Where standard error takes no more, the rest of the text is lost.
+pub fn say(err: Stderr, text: &[u8]) {
+    let _ = err.write_all(text);
 }
 
 // A number in a sentence.
-pub fn number(n: u64) {
+pub fn number(err: Stderr, n: u64) {
     let mut places = [32u8; 26];
     let from = spell(n, &mut places);
-    say_from(&places, from);
+    say_from(err, &places, from);
 }
 
 // A line of the table: what, and a number that ends in its column. The column is 15 places wide; a longer number takes more.
-pub fn line(what: &[u8], n: u64) {
+pub fn line(err: Stderr, what: &[u8], n: u64) {
     let mut places = [32u8; 26];
     let from = spell(n, &mut places);
-    say(what);
-    say_from(&places, least(from, 11));
-    say(b"\n");
+    say(err, what);
+    say_from(err, &places, least(from, 11));
+    say(err, b"\n");
 }
 
-fn say_from(places: &[u8; 26], from: usize) {
+fn say_from(err: Stderr, places: &[u8; 26], from: usize) {
     let all = &places[..];
     if all.len() < from {
         return;
     }
-    say(&all[from..]);
+    say(err, &all[from..]);
 }
 
 // A line of the table with an answer in place of the number.
-pub fn answer(what: &[u8], yes: bool) {
-    say(what);
+pub fn answer(err: Stderr, what: &[u8], yes: bool) {
+    say(err, what);
     if yes {
-        say(b"            yes\n");
+        say(err, b"            yes\n");
         return;
     }
-    say(b"             NO\n");
+    say(err, b"             NO\n");
 }
 
-pub fn unknown(what: &[u8]) {
-    say(what);
-    say(b"        unknown\n");
+pub fn unknown(err: Stderr, what: &[u8]) {
+    say(err, what);
+    say(err, b"        unknown\n");
 }
 
 // Puts `n` at the end of the places, which are blank, and answers where it begins.

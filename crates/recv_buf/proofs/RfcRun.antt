@@ -27,7 +27,7 @@ use Rattle.recv_buf.specs.declared.EmitOutcome.{EmitOutcome}
 use Rattle.recv_buf.specs.State.{Recv, view_of, buf_of}
 use Rattle.recv_buf.specs.Rules.{other_arena, is_ready, new_recv, bad_numbers, created, write_judged, wrote, written, written_arena, takes, take_judged, took_out, refused_take, discarded, emitted, emitted_out, reset_judged, was_reset, resets, shuts, with_flow, commits, autotunes}
 use Rattle.recv_buf.specs.Rfc9000.{Known, opened, data_over, size_over, changed, beyond, short, is_some, stream, reset_changed, reset_short, taken_only, reset_stream, available, reading, abort, advertise, Event, stream_frame, reset_frame, read_up_to, give_up, max_stream_data, effect, history, handed_out, Breaks, Lawful}
-use Rattle.recv_buf.specs.RfcAgreement.{Call, write, emit, discard, reset, shutdown, commit, tune, Side, view, begin, count_of, answer, step, run, knows, known_of, event, events, unlimited, Near}
+use Rattle.recv_buf.specs.RfcAgreement.{Call, write, emit, discard, reset, shutdown, commit, tune, Side, view, begin, count_of, step, run, knows, known_of, event, events, unlimited, Near}
 use Rattle.recv_buf.proofs.Good.{view_buf}
 use Rattle.flowcontrol.proofs.Steady.{Steady, consumed_steady, committed_steady, autotuned_steady}
 use Rattle.recv_buf.proofs.RfcLaws.{final_stays}

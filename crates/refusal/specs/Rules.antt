@@ -3,7 +3,7 @@ use Rattle.std.specs.Prelude.{Bool, true, false, cond, not, List, [], ◌∷◌,
 use Rattle.refusal.specs.declared.Refusal.{Refusal}
 use Rattle.refusal.specs.declared.Refusal.TheVariants.{Offset, Stopped, FinalSize, FlowControl, NoRoom, TableFull, NeverSent, Done, Reset, BadSetup}
 use Rattle.refusal.specs.declared.Answer.{Answer}
-use Rattle.refusal.specs.declared.Answer.TheVariants.{Done as Succeeded, Refused}
+use Rattle.refusal.specs.declared.Answer.TheVariants.{Done as Accepted, Refused}
 use Rattle.refusal.specs.declared.CountAnswer.{CountAnswer}
 use Rattle.refusal.specs.declared.CountAnswer.TheVariants.{Count, Refused as NoCount}
 use Rattle.refusal.specs.declared.EmitAnswer.{EmitAnswer}
@@ -60,7 +60,7 @@ success values = record { number = 0; values = values }
 
 -- each kind of answer; an end mark is 1 or 0
 abbrev pub told : Answer → Told
-told Succeeded = success []
+told Accepted = success []
 told (Refused why) = refusal why
 
 abbrev pub told_count : CountAnswer → Told
@@ -77,20 +77,20 @@ told_sizes (NoSizes why) = refusal why
 
 -- a plain answer with its numbers: a refusal goes up under its own number
 abbrev pub with_count : Answer → ℕ → CountAnswer
-with_count Succeeded n = Count n
+with_count Accepted n = Count n
 with_count (Refused why) n = NoCount why
 
 abbrev pub with_bytes : Answer → ℕ → Bool → EmitAnswer
-with_bytes Succeeded n fin = Emitted n fin
+with_bytes Accepted n fin = Emitted n fin
 with_bytes (Refused why) n fin = NoBytes why
 
 abbrev pub with_sizes : Answer → ℕ → ℕ → SizesAnswer
-with_sizes Succeeded a b = Sizes a b
+with_sizes Accepted a b = Sizes a b
 with_sizes (Refused why) a b = NoSizes why
 
 -- x after a success, and y after a refusal
 abbrev pub after : {A : Type 0} → Answer → A → A → A
-after Succeeded x y = x
+after Accepted x y = x
 after (Refused why) x y = y
 
 -- a number that may be missing: is it known; known and n; known and another

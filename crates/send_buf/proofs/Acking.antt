@@ -16,7 +16,7 @@ use Rattle.send_buf.specs.declared.SizesOutcome.{SizesOutcome}
 use Rattle.tables.proofs.Tables.{by_test}
 use borrow.Author.Tests.{le-leb, le-ltb, ne_eqb}
 use denote.Enum.Declared.{tag_of}
-use lib.ListN.{length, set}
+use lib.ListN.{length}
 use mathlib.Core.Bool.{Bool, cond, false, true}
 use mathlib.Core.List.{List, [], ◌∷◌}
 use mathlib.Core.Path.{◌∙◌, ◌≡◌, ap, refl, sym}

@@ -9,7 +9,7 @@ use range_buf::{Outcome, RangeBuf, SplitAnswer, SplitOutcome};
 
 // The chunk after a call, and what the call answered.
 #[repr(C)]
-#[derive(Drop)]
+#[derive(Clone, Copy)]
 pub struct VkRangeBufOut {
     pub buf: RangeBuf,
     pub answer: VkAnswer,
@@ -17,7 +17,7 @@ pub struct VkRangeBufOut {
 
 // The chunk after a split, which is its left part, the right part, and what the split answered. No right part: an empty chunk at 0.
 #[repr(C)]
-#[derive(Drop)]
+#[derive(Clone, Copy)]
 pub struct VkSplitOut {
     pub buf: RangeBuf,
     pub right: RangeBuf,

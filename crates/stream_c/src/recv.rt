@@ -13,7 +13,7 @@ use range_buf::RangeBuf;
 use recv_buf::{CountOutcome, EmitOutcome, Outcome, RecvBuf, SizesOutcome};
 
 #[repr(C)]
-#[derive(Drop)]
+#[derive(Clone, Copy)]
 pub struct VkRecvBuf {
     // The chunks, in the first `count` places, by offset; zero behind them.
     pub data: [RangeBuf; 64],
@@ -35,7 +35,7 @@ pub struct VkRecvBuf {
 
 // The buffer after a call, and what the call answered.
 #[repr(C)]
-#[derive(Drop)]
+#[derive(Clone, Copy)]
 pub struct VkRecvBufOut {
     pub buf: VkRecvBuf,
     pub answer: VkAnswer,

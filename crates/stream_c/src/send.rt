@@ -12,7 +12,7 @@ use ranges::RangeSet;
 use send_buf::{CountOutcome, EmitOutcome, Outcome, SendBuf, SizesOutcome};
 
 #[repr(C)]
-#[derive(Drop)]
+#[derive(Clone, Copy)]
 pub struct VkSendBuf {
     // The chunks, in the first `count` places, by offset; zero behind them.
     pub data: [RangeBuf; 64],
@@ -40,7 +40,7 @@ pub struct VkSendBuf {
 
 // The buffer after a call, and what the call answered.
 #[repr(C)]
-#[derive(Drop)]
+#[derive(Clone, Copy)]
 pub struct VkSendBufOut {
     pub buf: VkSendBuf,
     pub answer: VkAnswer,

@@ -10,7 +10,7 @@ use ranges::{OptionRange, Outcome, Range, RangeSet};
 
 // The set after a call, and what the call answered.
 #[repr(C)]
-#[derive(Drop)]
+#[derive(Clone, Copy)]
 pub struct VkRangeSetOut {
     pub set: RangeSet,
     pub answer: VkAnswer,
@@ -18,7 +18,7 @@ pub struct VkRangeSetOut {
 
 // A range, where there is one; 0..0 where there is none.
 #[repr(C)]
-#[derive(Drop)]
+#[derive(Clone, Copy)]
 pub struct VkRangeOut {
     pub range: Range,
     pub known: bool,

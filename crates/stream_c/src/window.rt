@@ -10,7 +10,7 @@ use flowcontrol::{FlowControl, Outcome};
 
 // The window after a call, and what the call answered.
 #[repr(C)]
-#[derive(Drop)]
+#[derive(Clone, Copy)]
 pub struct VkFlowControlOut {
     pub flow: VkFlowControl,
     pub answer: VkAnswer,

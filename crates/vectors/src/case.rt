@@ -2,6 +2,7 @@
 use super::tally::Tally;
 use super::words::Number;
 use super::{tally, words};
+use std::io::Stdout;
 
 // No call; a line that was not understood, whose stored answers are passed over; a call with no stored line yet; one that agrees with
 // quiche's line; one that agrees with the rules' line, in a row of docs/DIFFERENCES.md; one that differs.
@@ -17,7 +18,7 @@ const RULED: u64 = 4;
 
 const DIFFERS: u64 = 5;
 
-#[derive(Drop)]
+#[derive(Clone, Copy)]
 pub struct Case {
     state: u64,
     object: usize,
@@ -141,24 +142,24 @@ impl Case {
             return called.in_row(self.object, self.row);
         }
         if called.differ < 5 {
-            self.tell(call, stored, ours);
+            self.tell(called.out, call, stored, ours);
         }
         called.differs()
     }
 
-    fn tell(self, call: &[u8], stored: &[u8], ours: &[u8]) {
-        tally::say(b"line ");
-        tally::counted(self.line, b": ");
-        told(call, self.call);
-        tally::say(b"  stored: ");
-        told(stored, self.stored);
-        tally::say(b"  ours:   ");
-        told(ours, self.ours);
+    fn tell(self, out: Stdout, call: &[u8], stored: &[u8], ours: &[u8]) {
+        tally::say(out, b"line ");
+        tally::counted(out, self.line, b": ");
+        told(out, call, self.call);
+        tally::say(out, b"  stored: ");
+        told(out, stored, self.stored);
+        tally::say(out, b"  ours:   ");
+        told(out, ours, self.ours);
     }
 }
 
-fn told(text: &[u8], n: usize) {
+fn told(out: Stdout, text: &[u8], n: usize) {
     let k = refusal::least(n as u64, text.len() as u64) as usize;
-    tally::say(&text[0..k]);
-    tally::say(b"\n");
+    tally::say(out, &text[0..k]);
+    tally::say(out, b"\n");
 }

@@ -8,9 +8,12 @@
 // the rules'; any other differs. Lines that begin with `#` and empty ones are skipped.
 //
 // Any bytes may stand on standard input. A line that is no call is counted as not understood, and one of 8,192 bytes or more as differing.
+#![tactic(auto)]
+
 mod case;
 mod chunk;
 mod names;
+mod numerals;
 mod objects;
 mod page;
 mod reader;
@@ -27,26 +30,27 @@ ghost use Rattle.vectors.specs.Sound.{Sound};
 
 use objects::Objects;
 use page::Page;
+use std::io::{Stdin, Stdout};
 
-#[derive(Drop)]
+#[derive(Clone, Copy)]
 pub struct Run {
     pub objects: Objects,
     pub page: Page,
 }
 
-fn main() {
+fn main(rt: HostRuntime) {
     let mut sa = [0u8; 65537];
     let mut ra = [0u8; 65537];
-    replay(&mut sa, &mut ra);
+    replay(rt.stdin(), rt.stdout(), &mut sa, &mut ra);
 }
 
-fn replay(sa: &mut [u8; 65537], ra: &mut [u8; 65537]) {
+fn replay(input: Stdin, out: Stdout, sa: &mut [u8; 65537], ra: &mut [u8; 65537]) {
     let mut window = [0u8; 4096];
     let mut line = [0u8; 8192];
     let mut call = [0u8; 8192];
     let mut stored = [0u8; 8192];
     let mut ours = [0u8; 8192];
-    let run = begin();
+    let run = begin(input, out);
     let ended = rounds(
         run,
         sa,
@@ -60,11 +64,11 @@ fn replay(sa: &mut [u8; 65537], ra: &mut [u8; 65537]) {
     closed(ended, &call, &stored, &ours);
 }
 
-fn begin() -> Run
+fn begin(input: Stdin, out: Stdout) -> Run
     ensures { Sound result.objects }
 {
     let objects = objects::none();
-    let page = page::new();
+    let page = page::new(input, out);
     Run { objects, page }
 }
 

@@ -12,7 +12,7 @@ use ranges::RangeSet;
 use recv_buf::RecvBuf;
 use send_buf::SendBuf;
 
-#[derive(Drop)]
+#[derive(Clone, Copy)]
 pub struct Objects {
     pub chunk: RangeBuf,
     pub flow: FlowControl,

@@ -3,8 +3,9 @@ use super::case::Case;
 use super::reader::Reader;
 use super::tally::Tally;
 use super::{case, reader, tally, words};
+use std::io::{Stdin, Stdout};
 
-#[derive(Drop)]
+#[derive(Clone, Copy)]
 pub struct Page {
     pub reader: Reader,
     pub case: Case,
@@ -13,10 +14,10 @@ pub struct Page {
     pub lines: u64,
 }
 
-pub fn new() -> Page {
-    let reader = reader::new();
+pub fn new(input: Stdin, out: Stdout) -> Page {
+    let reader = reader::new(input);
     let case = case::none();
-    let tally = tally::new();
+    let tally = tally::new(out);
     Page {
         reader,
         case,
@@ -52,10 +53,10 @@ impl Page {
 
     // A line that does not fit is reported, and the call that it may belong to has no further verdict.
     fn too_long(self) -> Page {
-        tally::say(b"line ");
-        tally::counted(self.lines, b": too long\n");
         let mut next = self;
         let t = self.tally;
+        tally::say(t.out, b"line ");
+        tally::counted(t.out, self.lines, b": too long\n");
         let case = self.case;
         let u = t.differs();
         let c = case.passed();
@@ -85,8 +86,8 @@ impl Page {
         let u = t.not_understood();
         next.tally = u;
         if u.unclear < 6 {
-            tally::say(b"line ");
-            tally::counted(self.lines, b": not understood\n");
+            tally::say(u.out, b"line ");
+            tally::counted(u.out, self.lines, b": not understood\n");
         }
         next
     }

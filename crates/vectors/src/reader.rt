@@ -1,9 +1,10 @@
 // Standard input, a line at a time, by way of a small window.
 use super::text;
-use libc::STDIN_FILENO;
+use std::io::{Read, Stdin};
 
-#[derive(Drop)]
+#[derive(Clone, Copy)]
 pub struct Reader {
+    input: Stdin,
     // The window's bytes from `at` up to `have` are still to be taken.
     at: usize,
     have: usize,
@@ -15,8 +16,9 @@ pub struct Reader {
     pub broken: bool,
 }
 
-pub fn new() -> Reader {
+pub fn new(input: Stdin) -> Reader {
     Reader {
+        input,
         at: 0,
         have: 0,
         len: 0,
@@ -75,12 +77,13 @@ impl Reader {
             return self;
         }
         let mut r = self;
-        let got = libc::read(STDIN_FILENO, window);
-        let n = io::count(got, window);
+        let mut input = self.input;
+        let got = input.read(window);
+        r.broken = got.is_err();
+        let n = got.unwrap_or(0);
         r.at = 0;
         r.have = n;
         r.ended = n == 0;
-        r.broken = got < 0;
         r
     }
 }

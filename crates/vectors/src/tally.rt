@@ -1,8 +1,10 @@
 // What is counted, and the closing table. A count that would pass 64 bits stands still.
-use libc::STDOUT_FILENO;
+use super::numerals;
+use std::io::{Print, Stdout};
 
-#[derive(Drop)]
+#[derive(Clone, Copy)]
 pub struct Tally {
+    pub out: Stdout,
     // By object: rb, fc, rs, s, r.
     pub calls: [u64; 5],
     pub agree: [u64; 5],
@@ -13,8 +15,9 @@ pub struct Tally {
     pub unclear: u64,
 }
 
-pub fn new() -> Tally {
+pub fn new(out: Stdout) -> Tally {
     Tally {
+        out,
         calls: [0; 5],
         agree: [0; 5],
         ruled: [0; 5],
@@ -71,19 +74,24 @@ impl Tally {
     // The closing table. `broken` says that standard input could not be read to its end.
     pub fn table(self, broken: bool) {
         self.objects();
-        say(b"rows of docs/DIFFERENCES.md, each call with what docs/RULES.md asks:\n");
+        let out = self.out;
+        say(
+            out,
+            b"rows of docs/DIFFERENCES.md, each call with what docs/RULES.md asks:\n",
+        );
         self.each_row();
         let calls = self.calls;
         let agree = self.agree;
         let ruled = self.ruled;
-        counted(total(calls), b" calls\n");
-        counted(total(agree), b" agree with quiche's stored answer\n");
+        counted(out, total(calls), b" calls\n");
+        counted(out, total(agree), b" agree with quiche's stored answer\n");
         counted(
+            out,
             total(ruled),
             b" stand in a row and give what docs/RULES.md asks\n",
         );
-        counted(self.differ, b" differ otherwise\n");
-        counted(self.unclear, b" lines not understood\n");
+        counted(out, self.differ, b" differ otherwise\n");
+        counted(out, self.unclear, b" lines not understood\n");
         self.verdict(broken);
     }
 
@@ -99,59 +107,64 @@ impl Tally {
         if 4 < k {
             return;
         }
-        say(name);
-        counted(self.calls[k], b" calls, ");
-        counted(self.agree[k], b" agree with quiche, ");
-        counted(self.ruled[k], b" in a row\n");
+        let out = self.out;
+        say(out, name);
+        counted(out, self.calls[k], b" calls, ");
+        counted(out, self.agree[k], b" agree with quiche, ");
+        counted(out, self.ruled[k], b" in a row\n");
     }
 
     fn each_row(self) {
         let mut i: usize = 0;
         while i < 64 {
-            row(i, self.rows[i]);
+            row(self.out, i, self.rows[i]);
             i += 1;
         }
     }
 
     fn verdict(self, broken: bool) {
         let calls = self.calls;
+        let out = self.out;
         if broken {
-            say(b"vectors: STANDARD INPUT CANNOT BE READ\n");
+            say(out, b"vectors: STANDARD INPUT CANNOT BE READ\n");
             return;
         }
         if total(calls) == 0 {
-            say(b"vectors: NO CALLS\n");
+            say(out, b"vectors: NO CALLS\n");
             return;
         }
         if 0 < self.differ {
-            say(b"vectors: NOT THE SAME\n");
+            say(out, b"vectors: NOT THE SAME\n");
             return;
         }
         if 0 < self.unclear {
-            say(b"vectors: NOT ALL UNDERSTOOD\n");
+            say(out, b"vectors: NOT ALL UNDERSTOOD\n");
             return;
         }
-        say(b"vectors: every call as stored\n");
+        say(out, b"vectors: every call as stored\n");
     }
 }
 
-pub fn say(text: &[u8]) {
-    io::write_all(STDOUT_FILENO, text);
+// A write that fails is passed over.
+pub fn say(out: Stdout, text: &[u8]) {
+    let _ = out.write_all(text);
 }
 
-pub fn counted(n: u64, text: &[u8]) {
-    io::print_decimal(STDOUT_FILENO, n);
-    say(text);
+pub fn counted(out: Stdout, n: u64, text: &[u8]) {
+    let mut digits = [0u8; 20];
+    let k = numerals::decimal(n, &mut digits);
+    say(out, &digits[..k]);
+    say(out, text);
 }
 
 // A row that calls stand in.
-fn row(i: usize, n: u64) {
+fn row(out: Stdout, i: usize, n: u64) {
     if n == 0 {
         return;
     }
-    say(b"  D-");
-    counted(i as u64, b": ");
-    counted(n, b"\n");
+    say(out, b"  D-");
+    counted(out, i as u64, b": ");
+    counted(out, n, b"\n");
 }
 
 fn total(counts: [u64; 5]) -> u64 {

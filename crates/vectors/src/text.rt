@@ -1,5 +1,6 @@
 // The call script's text, put together in a lent buffer: each function puts its part at index `at` and hands back the index behind it.
 // What finds no room is left out, so a text that comes out as long as the buffer is not to be trusted.
+use super::numerals;
 use range_buf::RangeBuf;
 use refusal::{Answer, CountAnswer, EmitAnswer, OptionU64, Refusal, SizesAnswer};
 
@@ -23,7 +24,7 @@ pub fn word(out: &mut [u8], at: usize, text: &[u8]) -> usize {
 
 pub fn number(out: &mut [u8], at: usize, n: u64) -> usize {
     let mut digits = [0u8; 20];
-    let k = io::decimal(n, &mut digits);
+    let k = numerals::decimal(n, &mut digits);
     word(out, at, &digits[..k])
 }
 
@@ -127,7 +128,7 @@ fn summed(out: &mut [u8], at: usize, data: &[u8]) -> usize {
 
 fn hex(out: &mut [u8], at: usize, n: u64, width: usize) -> usize {
     let mut digits = [0u8; 16];
-    let k = io::hex(n, width, &mut digits);
+    let k = numerals::hex(n, width, &mut digits);
     word(out, at, &digits[..k])
 }
 

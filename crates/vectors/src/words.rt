@@ -5,7 +5,7 @@
 ghost use Rattle.std.specs.Prelude.{◌≤◌, ◌<◌, length};
 
 // The words behind a call's name. `shape` has an octal digit for each, first to last: 1 a number, 2 bytes, 3 `l` or `r`, 4 `-`.
-#[derive(Drop)]
+#[derive(Clone, Copy)]
 pub struct Words {
     pub good: bool,
     pub shape: u64,

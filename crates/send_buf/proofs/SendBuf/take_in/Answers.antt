@@ -1,0 +1,14 @@
+-- `SendBuf::take_in` meets its contract. Assumes nothing.
+use Prim.Native.Nat.{◌+◌}
+use Rattle.send_buf.proofs.Cutting.{took_plain}
+use Rattle.send_buf.specs.Rules.{pieces}
+use Rattle.send_buf.specs.State.{view_of}
+use borrow.Author.Tests.{ltb-false}
+use lib.ListN.{length}
+use mathlib.Core.Path.{◌∙◌, sym}
+use Rattle.send_buf.proofs.SendBuf.take_in.Goals as goal
+
+pub returns : goal.returns
+returns c =
+    let h = ltb-false 64 (length (view_of c.args.self).chunks + pieces c.args.k) (sym c.overflows.ensures ∙ c.if-overflows.false) in
+    record { value = c.append.ensures.value ∙ took_plain (view_of c.args.self) c.args.k h; arena_after = c.append.ensures.arena_after }
