@@ -1,6 +1,5 @@
 -- `copy` meets its contract. The invariant: the first i bytes of `dst` are those of `src`. Assumes nothing.
 use mathlib.Core.Path.{refl, sym, ◌∙◌}
-use Prim.Native.Nat.{◌-◌}
 use native.Mathlib.Omega.{arith}
 use native.Mathlib.Numerals.{add-one}
 use borrow.Author.Rules.{rules}

@@ -1,7 +1,7 @@
 -- `hand` meets its contract. The invariant: the first i bytes of `out` are those kept from off on. Assumes nothing.
 use mathlib.Core.Path.{◌≡◌, refl, sym, ap, ◌∙◌}
 use native.Mathlib.Omega.{arith}
-use Prim.Native.Nat.{ℕ, ◌+◌, ◌-◌, ◌%◌, ◌≤◌}
+use Prim.Native.Nat.{ℕ, ◌+◌, ◌%◌, ◌≤◌}
 use native.Mathlib.Nat.{add-zero, add_assoc}
 use lib.ListN.{length}
 use Rattle.arena.specs.Rules.{held}

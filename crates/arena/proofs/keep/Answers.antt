@@ -2,7 +2,7 @@
 use mathlib.Core.Path.{◌≡◌, refl, sym, ap, ◌∙◌}
 use native.Mathlib.Omega.{arith}
 use borrow.Author.Rules.{rules}
-use Prim.Native.Nat.{ℕ, ◌+◌, ◌-◌, ◌%◌, ◌≤◌}
+use Prim.Native.Nat.{ℕ, ◌+◌, ◌%◌, ◌≤◌}
 use native.Mathlib.Nat.{add-zero, add_assoc}
 use lib.ListN.{length}
 use Rattle.arena.proofs.Places.{follows}

@@ -1,9 +1,7 @@
 -- `are_clear` meets its contract. The invariant: the places are zero exactly if those from i on are. Assumes nothing.
-use Prim.Native.Nat.{◌-◌}
 use native.Mathlib.Omega.{arith}
 use Rattle.tables.proofs.Checks.{fails, passes, rest_next, rest_done}
 use Rattle.range_buf.specs.Rules.{zero_buf}
-use Rattle.range_buf.specs.Check.{is_zero}
 use Rattle.std.proofs.lemmas.Bool.{not_from_true, not_from_false}
 use Rattle.range_buf.proofs.are_clear.Goals as goal
 

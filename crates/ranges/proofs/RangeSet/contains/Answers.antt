@@ -1,6 +1,4 @@
 -- `RangeSet::contains` meets its contract. The invariant: the number is in the set exactly if it is in the ranges from i on. Assumes nothing.
-use Prim.Native.Nat.{◌-◌}
-use mathlib.Core.Logic.{⊎_elim}
 use borrow.Author.Rules.{rules}
 use borrow.Author.Tests.{le-leb, lt-leb, lt-ltb, le-ltb}
 use Rattle.ranges.proofs.Good.{next, done}

@@ -1,8 +1,7 @@
 -- `RangeSet::gone` meets its contract. The invariant: i ranges have no number above v, and the others are counted from i on. Assumes nothing.
-use Prim.Native.Nat.{suc, ◌+◌, ◌≤◌, ◌-◌, ◌<◌}
+use Prim.Native.Nat.{suc, ◌+◌, ◌≤◌, ◌<◌}
 use native.Mathlib.Omega.{arith}
 use mathlib.Core.Path.{◌≡◌, ap}
-use mathlib.Core.Logic.{⊎_elim}
 use borrow.Author.Rules.{rules}
 use borrow.Author.Tests.{le-leb, lt-leb}
 use lib.ListN.{drop, get_or}

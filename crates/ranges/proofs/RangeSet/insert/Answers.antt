@@ -1,5 +1,5 @@
 -- `RangeSet::insert` meets its contract. Assumes nothing.
-use mathlib.Core.Logic.{◌⊎◌, inl, inr, ⊎_elim}
+use mathlib.Core.Logic.{inl, inr}
 use borrow.Author.Tests.{lt-ltb, le-ltb}
 use Rattle.ranges.specs.State.{Good, ranges, set_of}
 use Rattle.ranges.specs.declared.RangeSet.{RangeSet}

@@ -1,5 +1,4 @@
 -- `RangeSet::is_clear` meets its contract. The invariant: the places behind the ranges are zero exactly if those from i on are. Assumes nothing.
-use Prim.Native.Nat.{◌-◌}
 use native.Mathlib.Omega.{arith}
 use borrow.Author.Rules.{rules}
 use borrow.Author.Tests.{eq-eqb, ne_eqb}

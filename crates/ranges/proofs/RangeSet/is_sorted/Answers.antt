@@ -1,5 +1,4 @@
 -- `RangeSet::is_sorted` meets its contract. The invariant: the ranges are in order exactly if those from i on are, from last + gap. Assumes nothing.
-use Prim.Native.Nat.{◌-◌}
 use native.Mathlib.Numerals.{add-one}
 use borrow.Author.Rules.{rules}
 use Rattle.tables.proofs.Checks.{fails, passes, front_next, front_done}

@@ -1,5 +1,5 @@
 -- `RangeSet::join` meets its contract. The invariant: the ranges from `low` to before i are joined, and the others are from i on. Assumes nothing.
-use Prim.Native.Nat.{◌+◌, ◌-◌}
+use Prim.Native.Nat.{◌+◌}
 use native.Mathlib.Omega.{arith}
 use mathlib.Core.Path.{◌≡◌, sym, ap, ◌∙◌}
 use mathlib.Core.List.{[], ◌∷◌}

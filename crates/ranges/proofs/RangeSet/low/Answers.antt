@@ -1,5 +1,5 @@
 -- `RangeSet::low` meets its contract. The invariant: i ranges end below x, and the others are counted from i on. Assumes nothing.
-use Prim.Native.Nat.{suc, ◌+◌, ◌-◌}
+use Prim.Native.Nat.{suc, ◌+◌}
 use native.Mathlib.Omega.{arith}
 use mathlib.Core.Path.{◌≡◌, ap}
 use borrow.Author.Rules.{rules}

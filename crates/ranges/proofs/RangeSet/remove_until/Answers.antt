@@ -1,5 +1,5 @@
 -- `RangeSet::remove_until` meets its contract. Assumes nothing.
-use Prim.Native.Nat.{◌+◌, ◌-◌, ◌<◌}
+use Prim.Native.Nat.{◌+◌, ◌<◌}
 use native.Mathlib.Omega.{arith}
 use mathlib.Core.Path.{◌≡◌, sym, ap, ◌∙◌}
 use mathlib.Core.Bool.{false}
@@ -39,7 +39,7 @@ overflow_add-rest c =
     let lt : gone_count c.args.largest (ranges s) < length (ranges s) = omega (arith, k.ensures, c.if-count-k.false, ranges_length s c.requires) in
     let f : goes c.args.largest (get_or s.inner k.result zero_range) ≡ false =
     rw (← entry s c.requires k.result, k.ensures) (front_stops (goes c.args.largest) (ranges s) zero_range lt) in
-    omega (arith, stays c.args.largest (get_or s.inner k.result zero_range) f c.if-largest-r.false, c.struct_known-1.given)
+    omega (arith, stays c.args.largest (get_or s.inner k.result zero_range) f c.if-largest-r.false)
 
 pub returns : goal.returns
 returns c =

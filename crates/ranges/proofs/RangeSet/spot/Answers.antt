@@ -1,5 +1,5 @@
 -- `RangeSet::spot` meets its contract. Assumes nothing.
-use Prim.Native.Nat.{ℕ, ◌-◌}
+use Prim.Native.Nat.{ℕ}
 use native.Mathlib.Omega.{arith}
 use mathlib.Core.Path.{ap, ◌∙◌}
 use Rattle.ranges.specs.State.{ranges}

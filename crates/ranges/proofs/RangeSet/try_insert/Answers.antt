@@ -1,5 +1,5 @@
 -- `RangeSet::try_insert` meets its contract. Assumes nothing.
-use mathlib.Core.Logic.{◌⊎◌, inl, inr, ⊎_elim}
+use mathlib.Core.Logic.{inl, inr}
 use borrow.Author.Tests.{lt-ltb, le-ltb}
 use Rattle.ranges.proofs.Insert.{at_spot, is_full, has_room, splice_fits}
 use Rattle.ranges.proofs.RangeSet.try_insert.Goals as goal
