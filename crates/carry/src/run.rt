@@ -4,7 +4,7 @@
 // in flight waits, or comes to the end, where it is lost or arrives; one that arrived may stay, to arrive again.
 //
 // Every frame ends at a multiple of the frame size or at the final size, as docs/OPERATORS.md advises: so with a receive arena of at most 63
-// frames the receive table never fills (crate channel, `ends-suffice`).
+// frames the receive table never fills (crate channel, `ends_suffice`).
 //
 // No slot is held for ever. A frame whose report the sender refuses stays in flight and comes to the end again, where it may still arrive,
 // since no channel here loses all. And the byte that the reader waits for is always in flight or the first to be sent: a slot that its loss
@@ -147,7 +147,7 @@ impl Run {
     }
 
     // Has the receive table no entry left for the byte that the reader waits for? Then each frame that brings it is refused TableFull, now
-    // and ever after (crate channel, `stalled-run`).
+    // and ever after (crate channel, `stalled_run`).
     pub fn is_stuck(self) -> bool
         requires { Sound self }
     {
