@@ -10,7 +10,10 @@ loop-done-init c =
 
 pub drain-k-requires : goal.drain-k-requires
 drain-k-requires c =
-    record { good_chunk = chunk_good c.args.self c.requires.good c.loop-done.i (copies_in c.args.self c.requires.good c.args.arena.now c.args.out.now c.args.count c.loop-done.out c.loop-done.done c.loop-done.i c.loop-done.invariant (search rules)); arena_nonzero = c.requires.arena_nonzero.0 }
+    record {
+      good_chunk = chunk_good c.args.self c.requires.good c.loop-done.i (copies_in c.args.self c.requires.good c.args.arena.now c.args.out.now c.args.count c.loop-done.out c.loop-done.done c.loop-done.i c.loop-done.invariant (search rules));
+      arena_nonzero = c.requires.arena_nonzero.0;
+    }
 
 pub loop-done-preserved : goal.loop-done-preserved
 loop-done-preserved c =

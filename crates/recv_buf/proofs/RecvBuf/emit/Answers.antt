@@ -15,7 +15,11 @@ returns-then-other_arena c =
 
 pub returns-in_default : goal.returns-in_default
 returns-in_default c =
-    let ok : other_arena (view_of c.args.self) (length c.args.arena.now) ≡ false = sym c.other_arena.ensures ∙ c.if-other_arena.false in record { value = emit_same c.args.self c.requires c.args.arena.now c.args.out.now ok c.discard-took.result c.discard-took.ensures; out_after = emit_refused c.args.self c.requires c.args.arena.now c.args.out.now ok c.discard-took.result c.discard-took.ensures c.in_default.field-0 c.in_default.is }
+    let ok : other_arena (view_of c.args.self) (length c.args.arena.now) ≡ false = sym c.other_arena.ensures ∙ c.if-other_arena.false in
+    record {
+      value = emit_same c.args.self c.requires c.args.arena.now c.args.out.now ok c.discard-took.result c.discard-took.ensures;
+      out_after = emit_refused c.args.self c.requires c.args.arena.now c.args.out.now ok c.discard-took.result c.discard-took.ensures c.in_default.field-0 c.in_default.is;
+    }
 
 pub copy_out-requires : goal.copy_out-requires
 copy_out-requires c =
@@ -30,4 +34,8 @@ copy_out-requires c =
 
 pub returns : goal.returns
 returns c =
-    let ok : other_arena (view_of c.args.self) (length c.args.arena.now) ≡ false = sym c.other_arena.ensures ∙ c.if-other_arena.false in record { value = emit_same c.args.self c.requires c.args.arena.now c.args.out.now ok c.discard-took.result c.discard-took.ensures; out_after = emit_done c.args.self c.requires c.args.arena.now c.args.out.now ok c.discard-took.result c.discard-took.ensures c.in-Emitted.count c.in-Emitted.field-1 c.in-Emitted.is c.copy_out.new.out c.copy_out.ensures }
+    let ok : other_arena (view_of c.args.self) (length c.args.arena.now) ≡ false = sym c.other_arena.ensures ∙ c.if-other_arena.false in
+    record {
+      value = emit_same c.args.self c.requires c.args.arena.now c.args.out.now ok c.discard-took.result c.discard-took.ensures;
+      out_after = emit_done c.args.self c.requires c.args.arena.now c.args.out.now ok c.discard-took.result c.discard-took.ensures c.in-Emitted.count c.in-Emitted.field-1 c.in-Emitted.is c.copy_out.new.out c.copy_out.ensures;
+    }

@@ -16,13 +16,13 @@ returns-then-is_known c =
     reset_again c.args.self c.requires c.args.code c.args.size (sym c.judge_reset-said.ensures ∙ c.in-Done.is) (sym c.is_known.ensures ∙ c.if-is_known.true)
 
 pub overflow_sub-result : goal.overflow_sub-result
-overflow_sub-result c = (reset_in c.args.self c.requires c.args.code c.args.size ((sym c.judge_reset-said.ensures ∙ c.in-Done.is))).1
+overflow_sub-result c = (reset_in c.args.self c.requires c.args.code c.args.size (sym c.judge_reset-said.ensures ∙ c.in-Done.is)).1
 
 pub overflow_sub-result-2 : goal.overflow_sub-result-2
-overflow_sub-result-2 c = (reset_in c.args.self c.requires c.args.code c.args.size ((sym c.judge_reset-said.ensures ∙ c.in-Done.is))).2
+overflow_sub-result-2 c = (reset_in c.args.self c.requires c.args.code c.args.size (sym c.judge_reset-said.ensures ∙ c.in-Done.is)).2
 
 pub was_reset-requires : goal.was_reset-requires
-was_reset-requires c = ((reset_in c.args.self c.requires c.args.code c.args.size ((sym c.judge_reset-said.ensures ∙ c.in-Done.is))).0, sym c.is_known.ensures ∙ c.if-is_known.false)
+was_reset-requires c = ((reset_in c.args.self c.requires c.args.code c.args.size (sym c.judge_reset-said.ensures ∙ c.in-Done.is)).0, sym c.is_known.ensures ∙ c.if-is_known.false)
 
 pub returns : goal.returns
 returns c =

@@ -30,4 +30,11 @@ sent-requires c =
 
 pub returns : goal.returns
 returns c =
-    let a = (sym c.other_arena.ensures ∙ c.if-other_arena.false) in record { value = emits (view_of c.args.self) c.args.arena.now c.args.out.now c.copy_out-copied.result c.copy_out-copied.ensures.value c.in-Count.n c.in-Count.is a c.starts_at-front.result c.is_at.result c.sent.result c.starts_at-front.ensures c.is_at.ensures c.sent.ensures; out_after = gives (view_of c.args.self) c.args.arena.now c.args.out.now c.copy_out-copied.result c.copy_out-copied.ensures.value c.in-Count.n c.in-Count.is a c.copy_out-copied.new.out c.copy_out-copied.ensures.out_after }
+    let a = sym c.other_arena.ensures ∙ c.if-other_arena.false in
+    let s = view_of c.args.self in
+    let o = c.copy_out-copied in
+    record {
+      value = emits s c.args.arena.now c.args.out.now o.result o.ensures.value c.in-Count.n c.in-Count.is a c.starts_at-front.result c.is_at.result c.sent.result
+          c.starts_at-front.ensures c.is_at.ensures c.sent.ensures;
+      out_after = gives s c.args.arena.now c.args.out.now o.result o.ensures.value c.in-Count.n c.in-Count.is a o.new.out o.ensures.out_after;
+    }

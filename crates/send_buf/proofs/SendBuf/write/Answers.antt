@@ -14,13 +14,9 @@ pub take_in-out-requires : goal.take_in-out-requires
 take_in-out-requires c =
     record { good = c.requires; admits = write_admits (view_of c.args.self) c.requires.facts (length c.args.arena.now) (length c.args.input.now) c.args.fin c.accepted-k.result (sym c.judge_write-said.ensures ∙ c.in-Done.is) c.accepted-k.ensures }
 
-pub returns-clause-value : goal.returns-clause-value
-returns-clause-value c =
-    rw c.with_fin.ensures
-    (is_written (view_of c.args.self) c.args.arena.now c.args.input.now c.args.fin c.judge_write-said.result c.judge_write-said.ensures c.in-Done.is
-    c.accepted-k.result c.take_in-out.result c.final_size-size.result c.take_in-out.new.arena c.accepted-k.ensures c.take_in-out.ensures.value c.final_size-size.ensures c.take_in-out.ensures.arena_after).0
-
-pub returns-clause-arena_after : goal.returns-clause-arena_after
-returns-clause-arena_after c =
-    (is_written (view_of c.args.self) c.args.arena.now c.args.input.now c.args.fin c.judge_write-said.result c.judge_write-said.ensures c.in-Done.is
-    c.accepted-k.result c.take_in-out.result c.final_size-size.result c.take_in-out.new.arena c.accepted-k.ensures c.take_in-out.ensures.value c.final_size-size.ensures c.take_in-out.ensures.arena_after).1
+pub returns : goal.returns
+returns c =
+    let both =
+    is_written (view_of c.args.self) c.args.arena.now c.args.input.now c.args.fin c.judge_write-said.result c.judge_write-said.ensures c.in-Done.is
+    c.accepted-k.result c.take_in-out.result c.final_size-size.result c.take_in-out.new.arena c.accepted-k.ensures c.take_in-out.ensures.value c.final_size-size.ensures c.take_in-out.ensures.arena_after in
+    record { value = rw c.with_fin.ensures both.0; arena_after = both.1 }
