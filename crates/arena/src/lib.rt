@@ -22,9 +22,10 @@ pub fn keep(arena: &mut [u8], off: u64, src: &[u8])
     }
     let mut at = place(off, all);
     let mut i = 0;
+    // A `while`: the index moves by a stretch a turn, and `chunks` would need the first stretch, which is shorter, told apart.
     while i < src.len() {
-        let n = stretch(src.len() - i, all - at);
-        copy(&mut arena[at..at + n], &src[i..i + n]);
+        let n = (src.len() - i).min(all - at);
+        arena[at..at + n].copy_from_slice(&src[i..i + n]);
         at = following(at + n, all);
         i += n;
     }
@@ -40,9 +41,10 @@ pub fn hand(arena: &[u8], off: u64, out: &mut [u8])
     }
     let mut at = place(off, all);
     let mut i = 0;
+    // A `while`, as in `keep`.
     while i < out.len() {
-        let n = stretch(out.len() - i, all - at);
-        copy(&mut out[i..i + n], &arena[at..at + n]);
+        let n = (out.len() - i).min(all - at);
+        out[i..i + n].copy_from_slice(&arena[at..at + n]);
         at = following(at + n, all);
         i += n;
     }
@@ -56,30 +58,10 @@ fn place(off: u64, all: usize) -> usize
     (off % all as u64) as usize
 }
 
-// How many of `left` bytes lie in one stretch, which has `room` places up to the arena's end.
-fn stretch(left: usize, room: usize) -> usize
-    ensures { result ≡ min left room }
-{
-    if left < room { left } else { room }
-}
-
 // The place behind a stretch that ends before place `end`: behind the last comes the first.
 fn following(end: usize, all: usize) -> usize
     requires { (0 < all) × (end ≤ all) }
     ensures { (result ≡ end % all) × (result < all) }
 {
     if end < all { end } else { 0 }
-}
-
-// Copies `src` over `dst`, which is as long. Straight from part to part, with an index that only counts: the compiler makes vector code of it
-// (docs/PERFORMANCE.md).
-fn copy(dst: &mut [u8], src: &[u8])
-    requires { length dst.old ≡ length src.now }
-    ensures { dst.new ≡ src.now }
-{
-    let mut i = 0;
-    while i < src.len() {
-        dst[i] = src[i];
-        i += 1;
-    }
 }

@@ -1,5 +1,5 @@
 -- What holds of a run from its first round to its last: both buffers and the connection's window are good, so each call of theirs may be
--- made, and a frame fits a slot.
+-- made, and a frame fits a slot. The ghost fields of `Run` say so (proofs/Sound.antt).
 use Rattle.std.specs.Prelude.{◌≤◌}
 use Rattle.flowcontrol.specs.State.{Good as GoodFlow}
 use Rattle.send_buf.specs.State.{Good as GoodSend}

@@ -2,121 +2,132 @@
 //
 // A refusal changes nothing, so each of these calls is made again: a write in the next round, a frame as one that was lost, and a report
 // when the frame, which stays in flight, comes to the channel's end again.
-use crate::tally::more;
-use crate::text;
-use crate::text::say;
+ghost use Rattle.std.specs.Prelude.{◌<◌};
+
+use crate::text::{Grouped, row};
 use refusal::Refusal;
-use std::io::Stderr;
+use std::io;
 
-// The calls.
-pub const WRITE: usize = 0;
+// The calls that may be refused.
+#[derive(Clone, Copy, Debug, PartialEq, Eq)]
+pub enum Call {
+    Write,
+    Frame,
+    Loss,
+    Ack,
+    Other,
+}
 
-pub const FRAME: usize = 1;
-
-pub const LOSS: usize = 2;
-
-pub const ACK: usize = 3;
-
-pub const OTHER: usize = 4;
+// The refusals of one call.
+#[derive(Clone, Copy)]
+struct Met {
+    // How many, at the refusal's number.
+    counts: [u64; 11],
+    // The last one, and the round that it fell in.
+    last: Option<(Refusal, u64)>,
+}
 
 #[derive(Clone, Copy)]
 pub struct Refusals {
-    // At call * 11 + number.
-    pub counts: [u64; 55],
-    // The number of each call's last refusal, 0 for none, and the round that it fell in.
-    pub last: [u64; 5],
-    pub rounds: [u64; 5],
+    // At each call.
+    met: [Met; 5],
 }
+
+const CALLS: [Call; 5] = [Call::Write, Call::Frame, Call::Loss, Call::Ack, Call::Other];
+
+// The name and number of each refusal, at its number; none has the number 0.
+const NAMES: [&str; 11] = [
+    "",
+    "Offset (1)",
+    "Stopped (2)",
+    "FinalSize (3)",
+    "FlowControl (4)",
+    "NoRoom (5)",
+    "TableFull (6)",
+    "NeverSent (7)",
+    "Done (8)",
+    "Reset (9)",
+    "BadSetup (10)",
+];
 
 impl Refusals {
     pub fn none() -> Refusals {
-        Refusals {
-            counts: [0u64; 55],
-            last: [0u64; 5],
-            rounds: [0u64; 5],
-        }
+        let none = Met {
+            counts: [0; 11],
+            last: None,
+        };
+        Refusals { met: [none; 5] }
     }
 
-    pub fn one_more(self, call: usize, why: Refusal, round: u64) -> Refusals {
-        let number = why.number();
-        let n = number as usize;
-        if 4 < call {
-            return self;
-        }
-        if 10 < n {
-            return self;
-        }
-        let i = call * 11 + n;
-        let mut next = self;
-        next.counts[i] = more(self.counts[i], 1);
-        next.last[call] = number;
-        next.rounds[call] = round;
-        next
+    pub fn add(&mut self, call: Call, why: Refusal, round: u64) {
+        let met = &mut self.met[call as usize];
+        let count = &mut met.counts[place(why)];
+        *count = count.saturating_add(1);
+        met.last = Some((why, round));
     }
 
     // A line of the closing table for each kind that occurred.
-    pub fn table(self, err: Stderr) {
-        let mut i: usize = 0;
-        while i < 55 {
-            row(err, i, self.counts[i]);
-            i += 1;
+    pub fn table(&self, rt: &impl Eprint) -> io::Result<()> {
+        for call in CALLS {
+            self.met[call as usize].table(rt, call.plural())?;
         }
+        Ok(())
     }
 
     // The last refusal of each call.
-    pub fn tell_last(self, err: Stderr) {
-        let mut call: usize = 0;
-        while call < 5 {
-            last_of(err, call, self.last[call], self.rounds[call]);
-            call += 1;
+    pub fn tell_last(&self, rt: &impl Eprint) -> io::Result<()> {
+        for call in CALLS {
+            self.met[call as usize].tell_last(rt, call.singular())?;
+        }
+        Ok(())
+    }
+}
+
+impl Met {
+    fn table(&self, rt: &impl Eprint, calls: &str) -> io::Result<()> {
+        for (name, count) in NAMES.iter().zip(self.counts) {
+            if count > 0 {
+                row(rt, format_args!("{calls:<16}{name:<16}"), Grouped(count))?;
+            }
+        }
+        Ok(())
+    }
+
+    fn tell_last(&self, rt: &impl Eprint, call: &str) -> io::Result<()> {
+        if let Some((why, round)) = self.last {
+            let name = NAMES[place(why)];
+            let round = Grouped(round);
+            eprintln!(rt; "  {call:<26}{name:<16}in round {round}")?;
+        }
+        Ok(())
+    }
+}
+
+impl Call {
+    fn plural(self) -> &'static str {
+        match self {
+            Call::Write => "writes refused,",
+            Call::Frame => "frames refused,",
+            Call::Loss => "losses refused,",
+            Call::Ack => "acks refused,",
+            Call::Other => "calls refused,",
+        }
+    }
+
+    fn singular(self) -> &'static str {
+        match self {
+            Call::Write => "last write refused:",
+            Call::Frame => "last frame refused:",
+            Call::Loss => "last loss report refused:",
+            Call::Ack => "last ack refused:",
+            Call::Other => "last other call refused:",
         }
     }
 }
 
-fn row(err: Stderr, i: usize, count: u64) {
-    if count == 0 {
-        return;
-    }
-    match i / 11 {
-        WRITE => say(err, b"  writes refused, "),
-        FRAME => say(err, b"  frames refused, "),
-        LOSS => say(err, b"  losses refused, "),
-        ACK => say(err, b"  acks refused,   "),
-        _ => say(err, b"  calls refused,  "),
-    }
-    name(err, i % 11);
-    text::line(err, b"", count);
-}
-
-fn last_of(err: Stderr, call: usize, number: u64, round: u64) {
-    if number == 0 {
-        return;
-    }
-    match call {
-        WRITE => say(err, b"  last write refused:       "),
-        FRAME => say(err, b"  last frame refused:       "),
-        LOSS => say(err, b"  last loss report refused: "),
-        ACK => say(err, b"  last ack refused:         "),
-        _ => say(err, b"  last other call refused:  "),
-    }
-    name(err, number as usize);
-    say(err, b"in round ");
-    text::number(err, round);
-    say(err, b"\n");
-}
-
-// The name and number of a refusal, at 16 places.
-fn name(err: Stderr, number: usize) {
-    match number {
-        1 => say(err, b"Offset (1)      "),
-        2 => say(err, b"Stopped (2)     "),
-        3 => say(err, b"FinalSize (3)   "),
-        4 => say(err, b"FlowControl (4) "),
-        5 => say(err, b"NoRoom (5)      "),
-        6 => say(err, b"TableFull (6)   "),
-        7 => say(err, b"NeverSent (7)   "),
-        8 => say(err, b"Done (8)        "),
-        9 => say(err, b"Reset (9)       "),
-        _ => say(err, b"BadSetup (10)   "),
-    }
+// Where a refusal stands in the counts and the names.
+fn place(why: Refusal) -> usize
+    ensures { result < 11 }
+{
+    why.number() as usize
 }

@@ -1,7 +1,7 @@
 // A run: the two buffers, the connection's window, the frames in flight, and the dice.
 //
-// Slot k of the channel holds one frame: its numbers in `frames[k]`, its bytes in the lent array from k * 1200 on. In each round a frame
-// in flight waits, or comes to the end, where it is lost or arrives; one that arrived may stay, to arrive again.
+// In each round a frame in flight waits, or comes to the channel's end, where it is lost or arrives; one that arrived may stay, to arrive
+// again. Its numbers are in `frames`, and its bytes at the same place in the slots, which are lent as the arenas are.
 //
 // Every frame ends at a multiple of the frame size or at the final size, as docs/OPERATORS.md advises: so with a receive arena of at most 63
 // frames the receive table never fills (crate channel, `ends_suffice`).
@@ -9,760 +9,341 @@
 // No slot is held for ever. A frame whose report the sender refuses stays in flight and comes to the end again, where it may still arrive,
 // since no channel here loses all. And the byte that the reader waits for is always in flight or the first to be sent: a slot that its loss
 // frees is filled with it.
+//
+// Each call of a buffer hands back a good one: a law of the buffer's own, which the function that makes the call names under `using`.
 ghost use Rattle.std.specs.Prelude.{◌≡◌, ◌<◌, ◌≤◌};
-ghost use Rattle.tables.specs.Checks.{all_by};
-ghost use Rattle.carry.specs.Sound.{Sound};
-ghost use Rattle.carry.specs.Verdict.{is_free, finished};
+ghost use Rattle.send_buf.specs.State.{Good as GoodSend};
+ghost use Rattle.recv_buf.specs.State.{Good as GoodRecv};
+ghost use Rattle.flowcontrol.specs.State.{Good as GoodFlow};
+ghost use Rattle.carry.specs.Props.{good_props};
 
+use crate::credit;
+use crate::dice::Dice;
+use crate::refusals::Call;
+use crate::settings::Settings;
 use crate::tally::Tally;
-use crate::text::say;
-use crate::{calls, credit, refusals};
-use flowcontrol::FlowControl;
+use crate::window::Window;
+use flowcontrol::{FlowControl, lent};
 use recv_buf::RecvBuf;
-use refusal::{Answer, CountAnswer, EmitAnswer, Refusal};
 use send_buf::SendBuf;
-use std::io::{Read, Stderr};
 use std::rt::Clock;
 
-// A frame in flight, or a free slot.
+// The room for a frame's bytes.
+pub type Slot = [u8; 1200];
+
+// A frame in flight.
 #[derive(Clone, Copy)]
 pub struct Frame {
-    pub busy: bool,
     pub off: u64,
     pub len: usize,
     // Does it carry the end mark?
     pub fin: bool,
     // Does the sender know that it arrived? Then this is a repetition.
     pub known: bool,
+    ghost fits: { len ≤ 1200 },
 }
 
-#[derive(Clone, Copy)]
+#[derive(Drop)]
 pub struct Run {
     pub send: SendBuf,
     pub recv: RecvBuf,
     // The connection's window.
     pub conn: FlowControl,
-    pub frames: [Frame; 8],
+    // The channel. A slot with no frame is free.
+    pub frames: [Option<Frame>; 8],
     pub tally: Tally,
-    // The state of the dice, and what they are held against, per mille.
-    pub dice: u64,
+    pub dice: Dice,
+    // What the dice are held against, per mille.
     pub loss: u64,
     pub again: u64,
     // The frame size.
     pub size: usize,
-    // The input window: it is read up to `have`; once it is full, or `ended` at the input's end, it is written from `at` on. `closed` after
-    // the write with the mark.
-    pub at: usize,
-    pub have: usize,
-    pub ended: bool,
+    // Is the end mark written?
     pub closed: bool,
-    // Is the end mark in flight, or arrived?
+    // Is it in flight, or arrived?
     pub marked: bool,
     // Standard input or output failed.
     pub broken: bool,
+    // So each call of the buffers and of the window may be made, and a frame fits a slot.
+    ghost sender: { GoodSend send } by { Prim.hlevel good_props },
+    ghost receiver: { GoodRecv recv } by { Prim.hlevel good_props },
+    ghost connection: { GoodFlow conn } by { Prim.hlevel good_props },
+    ghost some: { 0 < size },
+    ghost small: { size ≤ 1200 },
 }
 
 impl Run {
-    // One round.
-    pub fn round(
-        self,
-        rt: &(impl Input + Print + Clock),
-        err: Stderr,
-        sa: &mut [u8],
-        ra: &mut [u8],
-        window: &mut [u8],
-        bytes: &mut [u8],
-        out: &mut [u8],
-    ) -> Run
-        requires { Sound self }
-        ensures { Sound result }
-    {
-        let sent = self.outward(rt, err, sa, window, bytes);
-        sent.inward(rt, err, ra, bytes, out)
+    ghost use Rattle.std.specs.List.{list_all};
+    ghost use Rattle.carry.specs.Verdict.{is_free, finished};
+
+    #[tactic(auto, using(send_buf::proofs::Kept::created_good, recv_buf::proofs::Kept::created_good, flowcontrol::proofs::Kept::created_good))]
+    pub fn new(rt: &impl Clock, set: Settings, send_arena: &[u8], recv_arena: &[u8]) -> Run {
+        let room = recv_arena.len() as u64;
+        let limit = room.min(8192);
+        Run {
+            send: SendBuf::new(limit, send_arena).state,
+            recv: RecvBuf::new(limit, room, recv_arena).state,
+            conn: FlowControl::new(limit, limit, room).state,
+            frames: [None; 8],
+            tally: Tally::new(rt),
+            dice: Dice::new(set.seed),
+            loss: set.loss,
+            again: set.again,
+            size: set.frame,
+            closed: false,
+            marked: false,
+            broken: false,
+        }
     }
 
-    // The sender's half: from the input into the channel.
-    fn outward(
-        self,
-        rt: &impl Input,
-        err: Stderr,
-        sa: &mut [u8],
-        window: &mut [u8],
-        bytes: &mut [u8],
-    ) -> Run
-        requires { Sound self }
-        ensures { Sound result }
-    {
-        let fed = self.written_on(rt, err, sa, window);
-        fed.loaded(sa, bytes)
-    }
-
-    fn written_on(self, rt: &impl Input, err: Stderr, sa: &mut [u8], window: &mut [u8]) -> Run
-        requires { Sound self }
-        ensures { Sound result }
-    {
-        let read = self.refilled(rt, err, window);
-        read.fed(sa, window)
+    // The sender's half of a round: from the input into the channel.
+    pub fn outward(
+        &mut self,
+        rt: &(impl Input + Eprint),
+        window: &mut Window,
+        arena: &mut [u8],
+        slots: &mut [Slot; 8],
+    ) {
+        self.read(rt, window);
+        self.write(arena, window);
+        self.load(arena, slots);
     }
 
     // The receiver's half: from the channel to the output.
-    fn inward(
-        self,
-        rt: &(impl Print + Clock),
-        err: Stderr,
-        ra: &mut [u8],
-        bytes: &[u8],
+    pub fn inward(
+        &mut self,
+        rt: &(impl Print + Eprint + Clock),
+        arena: &mut [u8],
+        slots: &[Slot; 8],
         out: &mut [u8],
-    ) -> Run
-        requires { Sound self }
-        ensures { Sound result }
-    {
-        let moved = self.moved(ra, bytes);
-        let handed = moved.handed(rt, err, ra, out);
-        handed.closed_round(rt, err)
-    }
-
-    fn closed_round(self, rt: &impl Clock, err: Stderr) -> Run
-        requires { Sound self }
-        ensures { Sound result }
-    {
-        let credited = self.credited();
-        credited.counted(rt, err)
+    ) {
+        self.roll(arena, slots);
+        self.hand_out(rt, arena, out);
+        self.grant();
+        self.tally.round(rt);
     }
 
     // Is there something left to do, and hope that it gets done?
-    pub fn goes_on(self) -> bool
-        requires { Sound self }
-    {
-        if self.broken {
-            return false;
-        }
-        if self.is_stuck() {
-            return false;
-        }
-        if 1000000 < self.tally.idle {
-            return false;
-        }
-        !self.is_done()
+    pub fn goes_on(&self) -> bool {
+        !self.broken && !self.is_stuck() && self.tally.idle <= 1_000_000 && !self.is_done()
     }
 
     // Has the receive table no entry left for the byte that the reader waits for? Then each frame that brings it is refused TableFull, now
     // and ever after (crate channel, `stalled_run`).
-    pub fn is_stuck(self) -> bool
-        requires { Sound self }
-    {
-        if self.recv.count < 64 {
-            return false;
-        }
-        !self.recv.ready()
+    pub fn is_stuck(&self) -> bool {
+        self.recv.count >= 64 && !self.recv.ready()
     }
 
     // Has the receiver handed out everything, and is nothing in flight?
-    pub fn is_done(self) -> bool
-        ensures { result ≡ finished self }
+    pub fn is_done(&self) -> bool
+        ensures { result ≡ finished self.now }
     {
-        if self.broken {
-            return false;
-        }
-        if self.recv.is_fin() {
-            let frames = self.frames;
-            return are_free(frames);
-        }
-        false
+        !self.broken && self.recv.is_fin() && Run::are_free(&self.frames)
     }
 
-    fn counted(self, rt: &impl Clock, err: Stderr) -> Run
-        requires { Sound self }
-        ensures { Sound result }
+    fn are_free(frames: &[Option<Frame>]) -> bool
+        ensures { result ≡ list_all is_free frames.now }
     {
-        let mut next = self;
-        let t = self.tally.round().progress(rt, err);
-        next.tally = t;
-        next
+        frames.iter().all(|frame| frame.is_none())
     }
 
     // ---- the input
 
-    // Reads on until the window is full or the input has ended. A frame waits until all of it is written, and each write takes an entry of
-    // the send table: the few bytes that a pipe gives at a time would use it up first.
-    fn refilled(self, rt: &impl Input, err: Stderr, window: &mut [u8]) -> Run
-        requires { Sound self }
-        ensures { Sound result }
-    {
-        let have = self.have;
-        if self.is_filled(window) {
-            return self;
+    fn read(&mut self, rt: &(impl Input + Eprint), window: &mut Window) {
+        if window.refill(rt).is_err() {
+            let _ = eprintln!(rt; "carry: standard input cannot be read");
+            self.broken = true;
         }
-        if window.len() < have {
-            return self;
-        }
-        let got = read_once(rt, &mut window[have..]);
-        let mut next = self;
-        let Some(n) = got else {
-            say(err, b"carry: standard input cannot be read\n");
-            next.broken = true;
-            return next;
-        };
-        next.have = sum(have, n);
-        next.ended = n == 0;
-        next
-    }
-
-    fn is_filled(self, window: &[u8]) -> bool {
-        if self.ended {
-            return true;
-        }
-        window.len() <= self.have
     }
 
     // Writes what the send buffer takes of a filled window, and at the input's end no bytes with the mark.
-    fn fed(self, sa: &mut [u8], window: &[u8]) -> Run
-        requires { Sound self }
-        ensures { Sound result }
-    {
-        let at = self.at;
-        let have = self.have;
-        if !self.is_filled(window) {
-            return self;
+    #[tactic(auto, using(send_buf::proofs::Kept::written_good))]
+    fn write(&mut self, arena: &mut [u8], window: &mut Window) {
+        if self.closed || !window.is_filled() {
+            return;
         }
-        if window.len() < have {
-            return self;
+        let input = window.waiting();
+        let fin = input.is_empty();
+        let out = self.send.write(arena, input, fin);
+        self.send = out.state;
+        match out.answer {
+            Ok(n) => {
+                let n = input.len().min(n as usize);
+                self.tally.taken.add(&input[..n]);
+                self.closed = fin;
+                window.pass(n);
+            }
+            Err(why) => self.tally.refused(Call::Write, why),
         }
-        if at < have {
-            return self.written(sa, &window[at..have]);
-        }
-        self.shut(sa)
-    }
-
-    fn written(self, sa: &mut [u8], input: &[u8]) -> Run
-        requires { Sound self }
-        ensures { Sound result }
-    {
-        let out = calls::write(self.send, sa, input, false);
-        let answer = out.answer;
-        let buf = out.buf;
-        let mut next = self;
-        next.send = buf;
-        let CountAnswer::Count(n) = answer else {
-            return next.refused_count(refusals::WRITE, answer);
-        };
-        let k = n as usize;
-        if input.len() < k {
-            return next;
-        }
-        let t = self.tally.took(&input[0..k]);
-        next.tally = t;
-        next.passed(k)
-    }
-
-    // `k` bytes more of the window are written. One of which all is written is read into again.
-    fn passed(self, k: usize) -> Run
-        requires { Sound self }
-        ensures { Sound result }
-    {
-        let mut next = self;
-        next.at = sum(self.at, k);
-        if next.at < self.have {
-            return next;
-        }
-        next.at = 0;
-        next.have = 0;
-        next
-    }
-
-    fn shut(self, sa: &mut [u8]) -> Run
-        requires { Sound self }
-        ensures { Sound result }
-    {
-        if !self.ended {
-            return self;
-        }
-        if self.closed {
-            return self;
-        }
-        let out = calls::write(self.send, sa, b"", true);
-        let answer = out.answer;
-        let buf = out.buf;
-        let mut next = self;
-        next.send = buf;
-        let CountAnswer::Count(_) = answer else {
-            return next.refused_count(refusals::WRITE, answer);
-        };
-        next.closed = true;
-        next
     }
 
     // ---- the channel
 
     // Fills the free slots with frames.
-    fn loaded(self, sa: &[u8], bytes: &mut [u8]) -> Run
-        requires { Sound self }
-        ensures { Sound result }
-    {
-        let mut run = self;
-        let mut i: usize = 0;
-        while i < 8 {
-            run = run.load(i, sa, bytes);
-            i += 1;
+    fn load(&mut self, arena: &[u8], slots: &mut [Slot; 8]) {
+        for i in 0..8 {
+            if self.frames[i].is_none() {
+                self.frames[i] = self.next_frame(arena, &mut slots[i]);
+            }
         }
-        run
     }
 
-    fn load(self, slot: usize, sa: &[u8], bytes: &mut [u8]) -> Run
-        requires sound { Sound self }
-        requires slot_bound { slot < 8 }
-        ensures { Sound result }
-    {
-        let frame = self.frames[slot];
-        if frame.busy {
-            return self;
-        }
+    // The next frame, or none where a part of it is not written yet, or where it need not be sent: with bytes it must, and without if it
+    // carries the mark for the first time.
+    #[tactic(auto, using(send_buf::proofs::Kept::emitted_good))]
+    fn next_frame(&mut self, arena: &[u8], slot: &mut Slot) -> Option<Frame> {
         let off = self.send.off_front();
-        let room = room_at(off, self.size);
-        if self.waits(off, room) {
-            return self;
+        let room = self.room_at(off);
+        if !self.closed && self.send.off_back().saturating_sub(off) < room as u64 {
+            return None;
         }
-        let a = slot * 1200;
-        let e = a + room;
-        if bytes.len() < e {
-            return self;
+        let out = self.send.emit(arena, &mut slot[..room]);
+        self.send = out.state;
+        match out.answer {
+            Ok((n, fin)) if n > 0 || fin && !self.marked => {
+                self.tally.sent = self.tally.sent.saturating_add(1);
+                self.marked |= fin;
+                Some(Frame {
+                    off,
+                    len: room.min(n as usize),
+                    fin,
+                    known: false,
+                })
+            }
+            Ok(_) => None,
+            Err(why) => {
+                self.tally.refused(Call::Other, why);
+                None
+            }
         }
-        let out = calls::emit(self.send, sa, &mut bytes[a..e]);
-        let answer = out.answer;
-        let buf = out.buf;
-        let mut next = self;
-        next.send = buf;
-        let EmitAnswer::Emitted(n, fin) = answer else {
-            return next.refused_emit(answer);
-        };
-        if self.is_spare(n, fin) {
-            return next;
-        }
-        next.put(slot, off, n as usize, fin)
     }
 
-    // Is a part of the frame from `off` on not written yet?
-    fn waits(self, off: u64, room: usize) -> bool {
-        if self.closed {
-            return false;
-        }
-        less(self.send.off_back(), off) < room as u64
-    }
-
-    // Need a frame of `n` bytes not be sent? With bytes it must, and without if it carries the mark for the first time.
-    fn is_spare(self, n: u64, fin: bool) -> bool {
-        if 0 < n {
-            return false;
-        }
-        if fin {
-            return self.marked;
-        }
-        true
-    }
-
-    fn put(self, slot: usize, off: u64, len: usize, fin: bool) -> Run
-        requires sound { Sound self }
-        requires slot_bound { slot < 8 }
-        ensures { Sound result }
+    // How far it is from `off` to the next multiple of the frame size.
+    fn room_at(&self, off: u64) -> usize
+        ensures { result ≤ 1200 }
     {
-        let mut next = self;
-        let t = self.tally.sent_one();
-        next.tally = t;
-        next.marked = either(self.marked, fin);
-        next.frames[slot] = Frame {
-            busy: true,
-            off,
-            len,
-            fin,
-            known: false,
-        };
-        next
+        self.size - (off % self.size as u64) as usize
     }
 
     // Throws the dice for each frame in flight.
-    fn moved(self, ra: &mut [u8], bytes: &[u8]) -> Run
-        requires { Sound self }
-        ensures { Sound result }
-    {
-        let mut run = self;
-        let mut i: usize = 0;
-        while i < 8 {
-            run = run.move_one(i, ra, bytes);
-            i += 1;
+    fn roll(&mut self, arena: &mut [u8], slots: &[Slot; 8]) {
+        for i in 0..8 {
+            if let Some(frame) = self.frames[i] {
+                self.frames[i] = self.moved(frame, arena, &slots[i]);
+            }
         }
-        run
     }
 
-    fn move_one(self, slot: usize, ra: &mut [u8], bytes: &[u8]) -> Run
-        requires sound { Sound self }
-        requires slot_bound { slot < 8 }
-        ensures { Sound result }
-    {
-        let frame = self.frames[slot];
-        if !frame.busy {
-            return self;
+    // A frame waits, or comes to the channel's end, and is lost there or arrives. What stays of it in flight is the result, here and below.
+    fn moved(&mut self, frame: Frame, arena: &mut [u8], slot: &Slot) -> Option<Frame> {
+        if self.dice.per_mille() < 500 {
+            return Some(frame);
         }
-        let once = self.rolled();
-        if per_mille(once.dice) < 500 {
-            return once;
+        if self.dice.per_mille() < self.loss {
+            return self.lost(frame);
         }
-        once.come(slot, ra, bytes)
-    }
-
-    // A frame comes to the channel's end, and is lost there or arrives.
-    fn come(self, slot: usize, ra: &mut [u8], bytes: &[u8]) -> Run
-        requires sound { Sound self }
-        requires slot_bound { slot < 8 }
-        ensures { Sound result }
-    {
-        let once = self.rolled();
-        if per_mille(once.dice) < once.loss {
-            return once.lose(slot);
-        }
-        once.deliver(slot, ra, bytes)
+        self.delivered(frame, arena, slot)
     }
 
     // A frame arrives. One that is refused is as good as lost.
-    fn deliver(self, slot: usize, ra: &mut [u8], bytes: &[u8]) -> Run
-        requires sound { Sound self }
-        requires slot_bound { slot < 8 }
-        ensures { Sound result }
-    {
-        let frame = self.frames[slot];
-        let len = frame.len;
-        if 1200 < len {
-            return self;
+    #[tactic(auto, using(recv_buf::proofs::Kept::written_good))]
+    fn delivered(&mut self, frame: Frame, arena: &mut [u8], slot: &Slot) -> Option<Frame> {
+        let bytes = &slot[..frame.len];
+        let out = self.recv.write(arena, frame.off, bytes, frame.fin);
+        self.recv = out.state;
+        if let Err(why) = out.answer {
+            self.tally.refused(Call::Frame, why);
+            return self.lost(frame);
         }
-        let a = slot * 1200;
-        let e = a + len;
-        if bytes.len() < e {
-            return self;
-        }
-        let out = calls::arrive(self.recv, ra, frame.off, &bytes[a..e], frame.fin);
-        let answer = out.answer;
-        let buf = out.buf;
-        let mut next = self;
-        next.recv = buf;
-        let Answer::Refused(why) = answer else {
-            return next.arrived(slot);
-        };
-        next.bounced(slot, why)
-    }
-
-    fn bounced(self, slot: usize, why: Refusal) -> Run
-        requires sound { Sound self }
-        requires slot_bound { slot < 8 }
-        ensures { Sound result }
-    {
-        let next = self.refused(refusals::FRAME, why);
-        next.lose(slot)
+        self.arrived(frame)
     }
 
     // A frame arrived: the sender is told, and the dice say whether it will arrive again. Where the sender refuses, the frame stays.
-    fn arrived(self, slot: usize) -> Run
-        requires sound { Sound self }
-        requires slot_bound { slot < 8 }
-        ensures { Sound result }
-    {
-        let frame = self.frames[slot];
+    #[tactic(auto, using(send_buf::proofs::Kept::ack_drops_good))]
+    fn arrived(&mut self, mut frame: Frame) -> Option<Frame> {
         if frame.known {
-            return self.free(slot);
+            return None;
         }
-        let out = calls::ack(self.send, frame.off, frame.len as u64);
-        let answer = out.answer;
-        let buf = out.buf;
-        let mut next = self;
-        next.send = buf;
-        let CountAnswer::Count(_) = answer else {
-            return next.refused_count(refusals::ACK, answer);
-        };
-        next.settled(slot)
-    }
-
-    // A frame of which the sender knows stays or goes.
-    fn settled(self, slot: usize) -> Run
-        requires sound { Sound self }
-        requires slot_bound { slot < 8 }
-        ensures { Sound result }
-    {
-        let once = self.rolled();
-        if per_mille(once.dice) < once.again {
-            return once.keep(slot);
+        let out = self.send.ack_and_drop(frame.off, frame.len as u64);
+        self.send = out.state;
+        if let Err(why) = out.answer {
+            self.tally.refused(Call::Ack, why);
+            return Some(frame);
         }
-        once.free(slot)
+        if self.dice.per_mille() < self.again {
+            self.tally.repeated = self.tally.repeated.saturating_add(1);
+            frame.known = true;
+            return Some(frame);
+        }
+        None
     }
 
     // A frame is lost: the sender is told, unless it knows of an earlier arrival. Where it refuses, the frame stays.
-    fn lose(self, slot: usize) -> Run
-        requires sound { Sound self }
-        requires slot_bound { slot < 8 }
-        ensures { Sound result }
-    {
-        let frame = self.frames[slot];
+    #[tactic(auto, using(send_buf::proofs::Kept::retransmits_good))]
+    fn lost(&mut self, frame: Frame) -> Option<Frame> {
         if frame.known {
-            return self.free(slot);
+            return None;
         }
-        let out = calls::lost(self.send, frame.off, frame.len as u64);
-        let answer = out.answer;
-        let buf = out.buf;
-        let mut next = self;
-        next.send = buf;
-        let CountAnswer::Count(_) = answer else {
-            return next.refused_count(refusals::LOSS, answer);
-        };
-        next.marked = without(self.marked, frame.fin);
-        let t = next.tally.lost_one();
-        next.tally = t;
-        next.free(slot)
-    }
-
-    fn free(self, slot: usize) -> Run
-        requires sound { Sound self }
-        requires slot_bound { slot < 8 }
-        ensures { Sound result }
-    {
-        let mut next = self;
-        next.frames[slot] = no_frame();
-        next
-    }
-
-    // The frame stays, to arrive again.
-    fn keep(self, slot: usize) -> Run
-        requires sound { Sound self }
-        requires slot_bound { slot < 8 }
-        ensures { Sound result }
-    {
-        let frame = self.frames[slot];
-        let mut next = self;
-        let t = self.tally.repeated_one();
-        next.tally = t;
-        next.frames[slot] = Frame {
-            busy: true,
-            off: frame.off,
-            len: frame.len,
-            fin: frame.fin,
-            known: true,
-        };
-        next
+        let out = self.send.retransmit(frame.off, frame.len as u64);
+        self.send = out.state;
+        if let Err(why) = out.answer {
+            self.tally.refused(Call::Loss, why);
+            return Some(frame);
+        }
+        self.marked &= !frame.fin;
+        self.tally.lost = self.tally.lost.saturating_add(1);
+        None
     }
 
     // ---- the output
 
     // Hands out what is ready, to standard output.
-    fn handed(self, rt: &impl Print, err: Stderr, ra: &[u8], out: &mut [u8]) -> Run
-        requires { Sound self }
-        ensures { Sound result }
-    {
+    #[tactic(auto, using(recv_buf::proofs::Kept::emitted_good))]
+    fn hand_out(&mut self, rt: &(impl Print + Eprint), arena: &[u8], room: &mut [u8]) {
         if !self.recv.ready() {
-            return self;
+            return;
         }
-        let took = calls::take(self.recv, ra, out);
-        let answer = took.answer;
-        let buf = took.buf;
-        let mut next = self;
-        next.recv = buf;
-        let EmitAnswer::Emitted(n, _) = answer else {
-            return next.refused_emit(answer);
-        };
-        let k = n as usize;
-        if out.len() < k {
-            return next;
+        let out = self.recv.emit(arena, room);
+        self.recv = out.state;
+        match out.answer {
+            Ok((n, _)) => self.give(rt, &room[..room.len().min(n as usize)]),
+            Err(why) => self.tally.refused(Call::Other, why),
         }
-        next.given(rt, err, &out[0..k])
     }
 
-    fn given(self, rt: &impl Print, err: Stderr, bytes: &[u8]) -> Run
-        requires { Sound self }
-        ensures { Sound result }
-    {
-        let mut next = self.spent(bytes.len() as u64);
-        let t = next.tally.gave(bytes);
-        next.tally = t;
-        next.broken = !write_whole(rt, bytes);
-        if next.broken {
-            say(err, b"carry: standard output cannot be written\n");
+    // The connection's window counts what was handed out, as the receive buffer has in the stream's.
+    fn give(&mut self, rt: &(impl Print + Eprint), bytes: &[u8]) {
+        if let Err(why) = lent::consume(&mut self.conn, bytes.len() as u64) {
+            self.tally.refused(Call::Other, why);
         }
-        next
+        self.tally.gave(bytes);
+        self.broken = rt.write_all(bytes).is_err();
+        if self.broken {
+            let _ = eprintln!(rt; "carry: standard output cannot be written");
+        }
     }
 
-    // Counts what was handed out in the connection's window, as the receive buffer has in the stream's.
-    fn spent(self, n: u64) -> Run
-        requires { Sound self }
-        ensures { Sound result }
-    {
-        let out = credit::spent(self.conn, n);
-        let answer = out.answer;
-        let conn = out.flow;
-        let mut next = self;
-        next.conn = conn;
-        let Answer::Refused(why) = answer else {
-            return next;
-        };
-        next.refused(refusals::OTHER, why)
-    }
-
-    // Raises the limit where it is due: both windows are renewed, and the sender is granted the lesser of the two limits.
-    fn credited(self) -> Run
-        requires { Sound self }
-        ensures { Sound result }
-    {
+    // Raises the limit where it is due: both windows are renewed, and the sender is granted the lesser of the two limits. Time is counted in
+    // rounds, of which a round trip takes four.
+    #[tactic(auto, using(send_buf::proofs::Kept::raised_limit_good))]
+    fn grant(&mut self) {
         if !self.is_due() {
-            return self;
+            return;
         }
         let now = self.tally.rounds;
-        let recv = calls::commit(self.recv, now, 4);
-        let conn = credit::granted(self.conn, now, 4);
-        let limit = refusal::least(recv.max_data(), conn.max_data());
-        let out = calls::raise(self.send, limit);
-        let answer = out.answer;
-        let send = out.buf;
-        let mut next = self;
-        next.recv = recv;
-        next.conn = conn;
-        next.send = send;
-        let Answer::Refused(why) = answer else {
-            return next;
-        };
-        next.refused(refusals::OTHER, why)
+        let stream = credit::commit(&mut self.recv, now, 4);
+        let connection = credit::renew(&mut self.conn, now, 4);
+        let out = self.send.update_max_data(stream.min(connection));
+        self.send = out.state;
+        if let Err(why) = out.answer {
+            self.tally.refused(Call::Other, why);
+        }
     }
 
     // Does the receiver find the limit almost used up, or has the sender used it up where more could be had?
-    fn is_due(self) -> bool
-        requires { Sound self }
-    {
-        if self.recv.almost_full() {
-            return true;
-        }
-        if self.send.off_back() < self.send.max_off() {
-            return false;
-        }
-        self.recv.max_data() < self.recv.max_data_next()
+    fn is_due(&self) -> bool {
+        self.recv.almost_full()
+            || self.send.off_back() >= self.send.max_off()
+                && self.recv.max_data() < self.recv.max_data_next()
     }
-
-    // ---- counts and dice
-
-    fn refused(self, call: usize, why: Refusal) -> Run
-        requires { Sound self }
-        ensures { Sound result }
-    {
-        let mut next = self;
-        let t = self.tally.refused(call, why);
-        next.tally = t;
-        next
-    }
-
-    fn refused_count(self, call: usize, answer: CountAnswer) -> Run
-        requires { Sound self }
-        ensures { Sound result }
-    {
-        let CountAnswer::Refused(why) = answer else {
-            return self;
-        };
-        self.refused(call, why)
-    }
-
-    fn refused_emit(self, answer: EmitAnswer) -> Run
-        requires { Sound self }
-        ensures { Sound result }
-    {
-        let EmitAnswer::Refused(why) = answer else {
-            return self;
-        };
-        self.refused(refusals::OTHER, why)
-    }
-
-    fn rolled(self) -> Run
-        requires { Sound self }
-        ensures { Sound result }
-    {
-        let mut next = self;
-        next.dice = rolled(self.dice);
-        next
-    }
-}
-
-// Reads standard input once, and answers how many bytes it gave: 0 at its end, None where it cannot be read.
-fn read_once(rt: &impl Input, room: &mut [u8]) -> Option<usize> {
-    rt.reader().read(room).ok()
-}
-
-// Writes the bytes to standard output. Did it take all?
-fn write_whole(rt: &impl Print, bytes: &[u8]) -> bool {
-    rt.write_all(bytes).is_ok()
-}
-
-fn are_free(frames: [Frame; 8]) -> bool
-    ensures { result ≡ all_by is_free frames }
-{
-    let mut i: usize = 0;
-    while i < 8 {
-        let frame = frames[i];
-        if frame.busy {
-            return false;
-        }
-        i += 1;
-    }
-    true
-}
-
-pub fn no_frame() -> Frame {
-    Frame {
-        busy: false,
-        off: 0,
-        len: 0,
-        fin: false,
-        known: false,
-    }
-}
-
-// The next state of the dice, and what they show.
-pub fn rolled(dice: u64) -> u64 {
-    ((dice % 2147483648) * 1103515245 + 12345) % 2147483648
-}
-
-fn per_mille(dice: u64) -> u64 {
-    dice / 65536 % 1000
-}
-
-fn either(a: bool, b: bool) -> bool {
-    if a {
-        return true;
-    }
-    b
-}
-
-fn without(a: bool, b: bool) -> bool {
-    if b {
-        return false;
-    }
-    a
-}
-
-fn sum(a: usize, b: usize) -> usize {
-    if a < usize::MAX - b {
-        return a + b;
-    }
-    usize::MAX
-}
-
-// From `a` down by `b`, or 0.
-fn less(a: u64, b: u64) -> u64 {
-    if a < b {
-        return 0;
-    }
-    a - b
-}
-
-// How far it is from `off` to the next multiple of `size`.
-fn room_at(off: u64, size: usize) -> usize
-    ensures { result ≤ size }
-{
-    if size == 0 {
-        return 0;
-    }
-    let past = (off % size as u64) as usize;
-    if past < size {
-        return size - past;
-    }
-    size
 }

@@ -1,105 +1,37 @@
-// Text on standard error: words, numbers with a comma before each three digits, and the lines of a table.
-ghost use Rattle.std.specs.Prelude.{◌<◌};
+// Text on standard error: numbers with a comma before each three digits, and the lines of the closing table.
+use std::fmt::{self, Display, Formatter};
+use std::io;
 
-use std::io::Stderr;
+// A number, spelled with the commas.
+#[derive(Clone, Copy)]
+pub struct Grouped(pub u64);
 
-// Where standard error takes no more, the rest of the text is lost.
-pub fn say(err: Stderr, text: &[u8]) {
-    let _ = err.write_all(text);
-}
-
-// A number in a sentence.
-pub fn number(err: Stderr, n: u64) {
-    let mut places = [32u8; 26];
-    let from = spell(n, &mut places);
-    say_from(err, &places, from);
-}
-
-// A line of the table: what, and a number that ends in its column. The column is 15 places wide; a longer number takes more.
-pub fn line(err: Stderr, what: &[u8], n: u64) {
-    let mut places = [32u8; 26];
-    let from = spell(n, &mut places);
-    say(err, what);
-    say_from(err, &places, least(from, 11));
-    say(err, b"\n");
-}
-
-fn say_from(err: Stderr, places: &[u8; 26], from: usize) {
-    let all = &places[..];
-    if all.len() < from {
-        return;
+impl Display for Grouped {
+    fn fmt<W: fmt::Write>(&self, f: &mut Formatter<W>) -> fmt::Result {
+        let width = f.width().unwrap_or(0);
+        spell(f, self.0, width)
     }
-    say(err, &all[from..]);
 }
 
-// A line of the table with an answer in place of the number.
-pub fn answer(err: Stderr, what: &[u8], yes: bool) {
-    say(err, what);
-    if yes {
-        say(err, b"            yes\n");
-        return;
+// Writes `n` at the end of `width` places, or in as many as it takes.
+fn spell<W: fmt::Write>(f: &mut Formatter<W>, n: u64, width: usize) -> fmt::Result {
+    if n < 1000 {
+        return write!(f, "{n:>width$}");
     }
-    say(err, b"             NO\n");
+    spell(f, n / 1000, width.saturating_sub(4))?;
+    write!(f, ",{:03}", n % 1000)
 }
 
-pub fn unknown(err: Stderr, what: &[u8]) {
-    say(err, what);
-    say(err, b"        unknown\n");
+// A line of the table: what, and in the last of its columns how much.
+pub fn row<L: Display + Drop, V: Display + Drop>(
+    rt: &impl Eprint,
+    what: L,
+    value: V,
+) -> io::Result<()> {
+    eprintln!(rt; "  {what:<32}{value:>15}")
 }
 
-// Puts `n` at the end of the places, which are blank, and answers where it begins.
-fn spell(n: u64, places: &mut [u8; 26]) -> usize {
-    let mut rest = n;
-    let mut from: usize = 26;
-    let mut i: usize = 0;
-    while i < 26 {
-        let at = 25 - i;
-        let sign = sign_at(i, rest);
-        places[at] = sign;
-        from = begun(from, at, sign);
-        rest = rest_after(i, rest);
-        i += 1;
-    }
-    from
-}
-
-// The sign at place `i` from the right, where `rest` is still to be spelt: a digit, a comma at each fourth place, or a blank.
-fn sign_at(i: usize, rest: u64) -> u8 {
-    if i == 0 {
-        return digit(rest % 10);
-    }
-    if rest == 0 {
-        return 32;
-    }
-    if i % 4 == 3 {
-        return 44;
-    }
-    digit(rest % 10)
-}
-
-fn rest_after(i: usize, rest: u64) -> u64 {
-    if i % 4 == 3 {
-        return rest;
-    }
-    rest / 10
-}
-
-fn begun(from: usize, at: usize, sign: u8) -> usize {
-    if sign == 32 {
-        return from;
-    }
-    at
-}
-
-fn least(a: usize, b: usize) -> usize {
-    if a < b {
-        return a;
-    }
-    b
-}
-
-fn digit(d: u64) -> u8
-    requires { d < 10 }
-{
-    48 + d as u8
+// An answer in the table.
+pub fn yes_or_no(yes: bool) -> &'static str {
+    if yes { "yes" } else { "NO" }
 }

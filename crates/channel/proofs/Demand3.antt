@@ -1,4 +1,5 @@
 -- Demand 3 is proved: `safety`, `at_done`, `completeness`. Assumes nothing.
+use Rattle.std.specs.Prelude.{Option, Some, Result, Ok, Err, ⊤}
 use mathlib.Core.Path.{◌≡◌, refl, sym, ap, subst, ◌∙◌}
 use mathlib.Core.Logic.{◌⊎◌, inl, inr}
 use mathlib.Core.Bool.{Bool, true, false, cond}
@@ -7,13 +8,8 @@ use Prim.Native.Nat.{ℕ, ◌+◌, ◌≤◌, ◌<◌}
 use native.Mathlib.Omega.{arith}
 use lib.ListN.{length, take, drop, take-append-drop}
 use lib.Seq.{take-length}
-use Rattle.refusal.specs.declared.Answer.{Answer}
-use Rattle.refusal.specs.declared.Answer.TheVariants.{Done, Refused}
-use Rattle.refusal.specs.declared.EmitAnswer.{EmitAnswer}
-use Rattle.refusal.specs.declared.EmitAnswer.TheVariants.{Emitted, Refused as NoBytes}
+use Rattle.refusal.specs.declared.Refusal.{Refusal}
 use Rattle.refusal.specs.declared.Refusal.TheVariants.{NoRoom, TableFull, Done as NothingReady}
-use Rattle.refusal.specs.declared.OptionU64.{OptionU64}
-use Rattle.refusal.specs.declared.OptionU64.TheVariants.{Some}
 use Rattle.range_buf.specs.declared.RangeBuf.{RangeBuf}
 use Rattle.tables.proofs.Tables.{by_test}
 use Rattle.recv_buf.specs.State.{Recv}
@@ -32,7 +28,7 @@ use Rattle.refusal.specs.Rules as words
 
 -- ---- safety
 
-last_two : (a b : Bool) (x : Answer) → x ≡ cond a (Refused NoRoom) (cond b (Refused TableFull) Done) → (x ≡ Done) ⊎ ((x ≡ Refused NoRoom) ⊎ (x ≡ Refused TableFull))
+last_two : (a b : Bool) (x : Result ⊤ Refusal) → x ≡ cond a (Err NoRoom) (cond b (Err TableFull) (Ok tt)) → (x ≡ Ok tt) ⊎ ((x ≡ Err NoRoom) ⊎ (x ≡ Err TableFull))
 last_two true b x e = inr (inl e)
 last_two false true x e = inr (inr e)
 last_two false false x e = inl e
@@ -58,7 +54,7 @@ inv_safe y i = record {
     W : List ℕ
     W = y.snd.written
 
-    sf : OptionU64
+    sf : Option ℕ
     sf = (sender y.snd).fin
 
     size : (x : ℕ) → sf ≡ Some x → x ≡ length W
@@ -67,7 +63,7 @@ inv_safe y i = record {
 -- ---- draining
 
 -- what holds while the reader drains: the sender does nothing
-record Draining (W : List ℕ) (sf : OptionU64) (x : RecvEnd) : Type 0 where
+record Draining (W : List ℕ) (sf : Option ℕ) (x : RecvEnd) : Type 0 where
   pub inv : RecvInv W sf x
   pub covers : (o : ℕ) → o < length W → Covers (receiver x) o
   pub end_known : words.known (receiver x).fin ≡ true
@@ -93,7 +89,7 @@ ends y i d e =
       got_size = k.1 ∙ ap Some l;
     }
 
-module _ (W : List ℕ) (sf : OptionU64) (x : RecvEnd) (d : Draining W sf x) (out : List ℕ) where
+module _ (W : List ℕ) (sf : Option ℕ) (x : RecvEnd) (d : Draining W sf x) (out : List ℕ) where
   abbrev r : Recv
   r = receiver x
 
@@ -156,7 +152,7 @@ weight_is : (cs : List RangeBuf) → weight cs ≡ bytes_kept cs + length cs
 weight_is [] = refl
 weight_is (c ∷ cs) = omega (arith, weight_is cs)
 
-idle : (t : Bool) (n : ℕ) (m : Bool) (x : EmitAnswer) → (t ≡ true → x ≡ Emitted n m) → x ≡ NoBytes NothingReady → t ≡ false
+idle : (t : Bool) (n : ℕ) (m : Bool) (x : Result (ℕ × Bool) Refusal) → (t ≡ true → x ≡ Ok (n, m)) → x ≡ Err NothingReady → t ≡ false
 idle true n m x f e = let z : ◌≡◌ {A = ℕ} 0 1 = cc (f refl, e) in absurd (omega arith)
 idle false n m x f e = refl
 

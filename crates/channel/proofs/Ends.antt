@@ -5,6 +5,7 @@
 --   Ends          every acked range ends at a cut: kept when one more enters, and so contiguous ack is one                ends_placed, ack_ends
 --   Poised        the two, of a send buffer: kept by every call                          poised_wrote, poised_sent, poised_acked, poised_dropped, poised_lost
 --   begin         where the first chunk held begins: only a drop moves it, to a cut or to an acked byte            begin_wrote, .., begin_drops
+use Rattle.std.specs.List.{filter}
 use mathlib.Core.Path.{◌≡◌, refl, sym, subst}
 use mathlib.Core.Logic.{◌⊎◌, inl, inr}
 use mathlib.Core.Bool.{Bool, true, false, cond, ◌&&◌}
@@ -14,7 +15,6 @@ use native.Mathlib.Omega.{arith}
 use lib.Dec.{ltb, leb, eqb}
 use lib.ListN.{length, drop}
 use borrow.Author.Tests.{ltb-true, ltb-false, leb-true, leb-false, eqb-true, le-leb, lt-ltb}
-use Rattle.tables.specs.Lists.{filter_by}
 use Rattle.tables.proofs.Tables.{cases, cond_elim}
 use Rattle.range_buf.specs.declared.RangeBuf.{RangeBuf}
 use Rattle.range_buf.specs.Rules.{start, end, avail, fresh, used, left_part, right_part}
@@ -36,7 +36,7 @@ Ends Cut [] = Unit {0}
 Ends Cut (r ∷ rs) = Cut r.end × Ends Cut rs
 
 module _ (Cut : ℕ → Type 0) where
-  ends_filter : (p : Range → Bool) (l : List Range) → Ends Cut l → Ends Cut (filter_by p l)
+  ends_filter : (p : Range → Bool) (l : List Range) → Ends Cut l → Ends Cut (filter p l)
   ends_filter p [] k = tt
   ends_filter p (r ∷ rs) k = cond_elim (Ends Cut) (p r) (λ _. (k.0, ends_filter p rs k.1)) (λ _. ends_filter p rs k.1)
 
@@ -52,9 +52,9 @@ module _ (Cut : ℕ → Type 0) where
 
   pub ends_placed : (x : Range) (l : List Range) → Cut x.end → Ends Cut l → Ends Cut (placed x l)
   ends_placed x l e k =
-      ends_append (filter_by (ends_below x) l) (hull x (filter_by (joins x) l) ∷ filter_by (starts_above x) l)
+      ends_append (filter (ends_below x) l) (hull x (filter (joins x) l) ∷ filter (starts_above x) l)
       (ends_filter (ends_below x) l k)
-      (ends_hull x (filter_by (joins x) l) e (ends_filter (joins x) l k), ends_filter (starts_above x) l k)
+      (ends_hull x (filter (joins x) l) e (ends_filter (joins x) l k), ends_filter (starts_above x) l k)
 
   pub ack_ends : (l : List Range) → Ends Cut l → 0 < ack_off l → Cut (ack_off l)
   ack_ends [] k h = absurd (omega arith)

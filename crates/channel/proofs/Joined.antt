@@ -1,19 +1,18 @@
 -- The invariant of the joined system: it holds of two fresh buffers, and every move keeps it. Assumes nothing.
+use Rattle.std.specs.Prelude.{slice_get, Option, None, Some, ⊤}
 use mathlib.Core.Path.{◌≡◌, refl, sym, ap, subst, ◌∙◌}
 use mathlib.Core.Bool.{false}
-use mathlib.Core.Option.{Option, none, some}
 use mathlib.Core.List.{List, [], ◌∷◌}
 use Prim.Native.Nat.{ℕ, ◌≤◌}
 use native.Mathlib.Omega.{arith}
-use lib.ListN.{get_elem?}
 use borrow.Author.Tests.{ne_eqb, le-ltb}
 use Rattle.refusal.specs.Rules.{M}
-use Rattle.refusal.specs.declared.OptionU64.TheVariants.{None}
-use Rattle.send_buf.specs.declared.Outcome.{Outcome as SendOutcome}
+use Rattle.refusal.specs.declared.Outcome.{Outcome}
+use Rattle.send_buf.specs.declared.SendBuf.{SendBuf}
 use Rattle.send_buf.specs.State.{Send, buf_of as send_buf_of}
 use Rattle.send_buf.specs.Rules as send
 use Rattle.send_buf.proofs.Views.{view_of_lem}
-use Rattle.recv_buf.specs.declared.Outcome.{Outcome as RecvOutcome}
+use Rattle.recv_buf.specs.declared.RecvBuf.{RecvBuf}
 use Rattle.recv_buf.specs.State.{Recv, buf_of as recv_buf_of}
 use Rattle.recv_buf.specs.Rules as recv
 use Rattle.recv_buf.proofs.Good.{view_buf}
@@ -32,15 +31,15 @@ pub record Inv (y : System) : Type 0 where
 -- ---- two fresh buffers
 
 module _ (u : Setup) (p : Premises u) where
-  sends : (send.created u.send_limit u.send_room).buf ≡ send_buf_of (send.new_send u.send_room u.send_limit)
+  sends : (send.created u.send_limit u.send_room).state ≡ send_buf_of (send.new_send u.send_room u.send_limit)
   unfolding send.created
   sends =
       let z : u.send_room ≡ 0 → ⊥ = λ e. omega (arith, p.send_room_some) in
       let t : send.bad_numbers u.send_limit u.send_room ≡ false =
       rw (ne_eqb u.send_room 0 z, le-ltb 65536 u.send_room p.send_room_in, le-ltb M u.send_limit (omega (arith, p.starting, p.in_window, p.window_in))) in
-      ap (λ (o : SendOutcome). o.buf) (undecided t _ _)
+      ap (λ (o : Outcome ⊤ SendBuf). o.state) (undecided t _ _)
 
-  receives : (recv.created u.recv_limit u.max_window u.recv_room).buf ≡ recv_buf_of (recv.new_recv u.recv_room u.recv_limit u.max_window)
+  receives : (recv.created u.recv_limit u.max_window u.recv_room).state ≡ recv_buf_of (recv.new_recv u.recv_room u.recv_limit u.max_window)
   unfolding recv.created
   receives =
       let z : u.recv_room ≡ 0 → ⊥ = λ e. omega (arith, p.recv_room_some) in
@@ -51,7 +50,7 @@ module _ (u : Setup) (p : Premises u) where
         le-ltb M u.recv_limit (omega (arith, p.in_window, p.window_in)),
         le-ltb M u.max_window p.window_in,
       ) in
-      ap (λ (o : RecvOutcome). o.buf) (undecided t _ _)
+      ap (λ (o : Outcome ⊤ RecvBuf). o.state) (undecided t _ _)
 
   pub sender_is : sender (fresh u).snd ≡ send.new_send u.send_room u.send_limit
   unfolding fresh
@@ -95,28 +94,28 @@ inv_recv : (y : System) → Inv y → (z : RecvEnd) → RecvStep y.snd.written (
 inv_recv y i z g = record { send_inv = i.send_inv; recv_inv = g.0; credit = omega (arith, i.credit, g.1) }
 
 -- a move that names what is not there does nothing
-pub named_elim : {B : Type 0} (P : System → Type 0) (o : Option B) (f : B → System) (y : System) → ((b : B) → o ≡ some b → P (f b)) → P y → P (named o f y)
-named_elim P none f y h k = k
-named_elim P (some b) f y h k = h b refl
+pub named_elim : {B : Type 0} (P : System → Type 0) (o : Option B) (f : B → System) (y : System) → ((b : B) → o ≡ Some b → P (f b)) → P y → P (named o f y)
+named_elim P None f y h k = k
+named_elim P (Some b) f y h k = h b refl
 
 pub inv_step : (y : System) (m : Move) → Inv y → Inv (step y m)
 inv_step y (write input fin) i = inv_send y i 0 _ (omega arith) (writes_step y.snd i.send_inv input fin)
 inv_step y (emit out) i = inv_send y i 0 _ (omega arith) (emits_step y.snd i.send_inv out)
 inv_step y (deliver k) i =
-    named_elim Inv (get_elem? y.snd.frames k) _ y
+    named_elim Inv (slice_get y.snd.frames k) _ y
     (λ f e. inv_recv y i _ (takes_step y.snd.written (sender y.snd).fin y.rcv i.recv_inv f (all_at (Honest y.snd.written (sender y.snd).fin) y.snd.frames k f e i.send_inv.honest)))
     i
 inv_step y (read out) i = inv_recv y i _ (reads_step y.snd.written (sender y.snd).fin y.rcv i.recv_inv out)
 inv_step y (commit now) i = inv_recv y i _ (commits_step y.snd.written (sender y.snd).fin y.rcv i.recv_inv now)
 inv_step y (tune now rtt) i = inv_recv y i _ (tunes_step y.snd.written (sender y.snd).fin y.rcv i.recv_inv now rtt)
 inv_step y (raise k) i =
-    named_elim Inv (get_elem? y.rcv.granted k) _ y
+    named_elim Inv (slice_get y.rcv.granted k) _ y
     (λ v e. inv_send y i v _ (all_at (λ (x : ℕ). x ≤ (receiver y.rcv).flow.max_data) y.rcv.granted k v e i.recv_inv.grants) (raises_step y.snd i.send_inv v))
     i
 inv_step y (block at) i = inv_send y i 0 _ (omega arith) (blocks_step y.snd i.send_inv at)
-inv_step y (ack k) i = named_elim Inv (get_elem? y.rcv.accepted k) _ y (λ f e. inv_send y i 0 _ (omega arith) (acks_step y.snd i.send_inv f)) i
-inv_step y (ack_drop k) i = named_elim Inv (get_elem? y.rcv.accepted k) _ y (λ f e. inv_send y i 0 _ (omega arith) (ack_drops_step y.snd i.send_inv f)) i
-inv_step y (lose k) i = named_elim Inv (get_elem? y.snd.frames k) _ y (λ f e. inv_send y i 0 _ (omega arith) (loses_step y.snd i.send_inv f)) i
+inv_step y (ack k) i = named_elim Inv (slice_get y.rcv.accepted k) _ y (λ f e. inv_send y i 0 _ (omega arith) (acks_step y.snd i.send_inv f)) i
+inv_step y (ack_drop k) i = named_elim Inv (slice_get y.rcv.accepted k) _ y (λ f e. inv_send y i 0 _ (omega arith) (ack_drops_step y.snd i.send_inv f)) i
+inv_step y (lose k) i = named_elim Inv (slice_get y.snd.frames k) _ y (λ f e. inv_send y i 0 _ (omega arith) (loses_step y.snd i.send_inv f)) i
 
 pub inv_run : (y : System) (ms : List Move) → Inv y → Inv (run y ms)
 inv_run y [] i = i

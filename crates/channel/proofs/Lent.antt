@@ -91,8 +91,7 @@ answers_all w (l ∷ ls) = answers w l ++ answers_all (leaves w l) ls
 
 -- the receiver's end with the window w handed back, and these limits granted
 abbrev pub hands_back : RecvEnd → FlowControl → List ℕ → RecvEnd
-hands_back x w limits =
-    record { buf = recv.flow_back (receiver x) w; arena = x.arena; out = x.out; accepted = x.accepted; granted = x.granted ++ limits }
+hands_back x w limits = record x { buf = recv.flow_back (receiver x) w; granted = x.granted ++ limits }
 
 -- the window is taken out, lent in turn, and handed back; the limits that commits answered are granted
 abbrev pub lends : RecvEnd → List Loan → RecvEnd
@@ -115,7 +114,7 @@ lent_commit_move y now = refl
 pub lent_tune_move : (y : System) (now rtt : ℕ) → on_recv y (lends y.rcv (tuning now rtt ∷ [])) ≡ step y (tune now rtt)
 unfolding tunes recv.flow_back recv.autotunes buf_of
 lent_tune_move y now rtt =
-    ap (λ (limits : List ℕ). on_recv y (record { buf = recv.autotunes (receiver y.rcv) now rtt; arena = y.rcv.arena; out = y.rcv.out; accepted = y.rcv.accepted; granted = limits })) (append-nil y.rcv.granted)
+    ap (λ (limits : List ℕ). on_recv y (record y.rcv { buf = recv.autotunes (receiver y.rcv) now rtt; granted = limits })) (append-nil y.rcv.granted)
 
 -- a window handed back twice is the second
 back_again : (r : Recv) (w w' : FlowControl) → recv.flow_back (view_of (recv.flow_back r w)) w' ≡ recv.flow_back r w'
@@ -131,9 +130,9 @@ lends_on x l ls =
     let later : List ℕ = answers_all next ls in
     let a : (x.granted ++ (answers w l ++ [])) ++ later ≡ x.granted ++ (answers w l ++ later) =
     ap (λ (g : List ℕ). (x.granted ++ g) ++ later) (append-nil (answers w l)) ∙ append_assoc x.granted (answers w l) later in
-    ap (λ (b : RecvBuf). record { buf = b; arena = x.arena; out = x.out; accepted = x.accepted; granted = (x.granted ++ (answers w l ++ [])) ++ later })
+    ap (λ (b : RecvBuf). record x { buf = b; granted = (x.granted ++ (answers w l ++ [])) ++ later })
     (back_again (receiver x) next (leaves_all next ls))
-    ∙ ap (λ (g : List ℕ). record { buf = recv.flow_back (receiver x) (leaves_all next ls); arena = x.arena; out = x.out; accepted = x.accepted; granted = g }) a
+    ∙ ap (λ (g : List ℕ). record x { buf = recv.flow_back (receiver x) (leaves_all next ls); granted = g }) a
 
 lent_move : (y : System) (l : Loan) → on_recv y (lends y.rcv (l ∷ [])) ≡ step y (move_of l)
 lent_move y (committing now) = lent_commit_move y now
@@ -147,8 +146,8 @@ leaves_good w (tuning now rtt) g = autotuned_good w g now rtt
 lends_none : (x : RecvEnd) → GoodRecvBuf x.buf → lends x [] ≡ x
 unfolding recv.flow_back
 lends_none x g =
-    ap (λ (b : RecvBuf). record { buf = b; arena = x.arena; out = x.out; accepted = x.accepted; granted = x.granted ++ [] }) (sym g.whole)
-    ∙ ap (λ (l : List ℕ). record { buf = x.buf; arena = x.arena; out = x.out; accepted = x.accepted; granted = l }) (append-nil x.granted)
+    ap (λ (b : RecvBuf). record x { buf = b; granted = x.granted ++ [] }) (sym g.whole)
+    ∙ ap (λ (l : List ℕ). record x { granted = l }) (append-nil x.granted)
 
 -- the buffer is good, as `set_flow_control` requires
 pub lent_loop : (y : System) → GoodRecvBuf y.rcv.buf → (ls : List Loan) → on_recv y (lends y.rcv ls) ≡ run y (moves_of ls)

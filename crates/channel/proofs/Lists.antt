@@ -1,11 +1,10 @@
 -- What holds of every element of a list, and what of one. Assumes nothing.
+use Rattle.std.specs.Prelude.{slice_get, Some}
 use mathlib.Core.Path.{◌≡◌, subst}
 use mathlib.Core.Logic.{inl, inr}
-use mathlib.Core.Option.{some}
 use mathlib.Core.List.{List, [], ◌∷◌, ◌++◌}
 use Prim.Native.Nat.{ℕ, zero, suc}
 use native.Mathlib.Omega.{arith}
-use lib.ListN.{get_elem?}
 use Rattle.recv_buf.specs.Rfc9000.{Frame}
 use Rattle.channel.specs.Demand3.{OneOf}
 
@@ -29,7 +28,7 @@ pub all_last : {A : Type 0} (P : A → Type 0) (xs : List A) (x : A) → All P (
 all_last P [] x k = k.0
 all_last P (y ∷ ys) x k = all_last P ys x k.1
 
-pub all_at : {A : Type 0} (P : A → Type 0) (xs : List A) (i : ℕ) (x : A) → get_elem? xs i ≡ some x → All P xs → P x
+pub all_at : {A : Type 0} (P : A → Type 0) (xs : List A) (i : ℕ) (x : A) → slice_get xs i ≡ Some x → All P xs → P x
 all_at P [] i x e k = let z : ◌≡◌ {A = ℕ} 0 1 = cc in absurd (omega arith)
 all_at P (y ∷ ys) zero x e k = let p : y ≡ x = cc in subst P p k.0
 all_at P (y ∷ ys) (suc i) x e k = all_at P ys i x e k.1

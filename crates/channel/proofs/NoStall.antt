@@ -12,35 +12,33 @@
 --   stalled_run      without the rule: once 64 chunks of bytes are kept and none is at off, no schedule brings the reader a byte, ever
 --
 -- StallRuns.antt has schedules at A = 63 L + 1 and A = 64 L in which each of the first two fails.
+use Rattle.std.specs.Prelude.{slice_get, Option, Some, Result, Ok, Err, ⊤}
 use mathlib.Core.Path.{◌≡◌, refl, sym, ap, subst, subst₂, ◌∙◌}
 use mathlib.Core.Logic.{◌⊎◌, inl, inr}
 use mathlib.Core.Bool.{Bool, true, false, ◌&&◌}
-use mathlib.Core.Option.{some}
 use mathlib.Core.List.{List, [], ◌∷◌, ◌++◌, append-nil}
 use Prim.Native.Nat.{ℕ, ◌+◌, ◌*◌, ◌≤◌, ◌<◌, max}
 use native.Mathlib.Nat.{mul-zero}
 use native.Mathlib.Omega.{arith}
 use lib.Dec.{ltb}
-use lib.ListN.{length, take, get_elem?}
+use lib.ListN.{length, take}
 use Rattle.tables.proofs.Tables.{cond_elim}
 use Rattle.refusal.specs.Rules.{M, after as sent_after, is_at as sent_at, after, known, is_at, with_bytes}
-use Rattle.refusal.specs.declared.Answer.{Answer}
-use Rattle.refusal.specs.declared.Answer.TheVariants.{Done, Refused}
+use Rattle.refusal.specs.declared.Refusal.{Refusal}
+use Rattle.refusal.specs.declared.Outcome.{Outcome}
 use Rattle.refusal.specs.declared.Refusal.TheVariants.{TableFull, Done as NothingReady}
 use Rattle.refusal.proofs.Answers.{not_both}
-use Rattle.refusal.specs.declared.OptionU64.{OptionU64}
 use Rattle.arena.proofs.Laws.{length_held}
-use Rattle.ranges.specs.Rules.{member_of}
 use Rattle.flowcontrol.specs.declared.FlowControl.{FlowControl}
+use Rattle.ranges.specs.Rules.{member_of}
 use Rattle.flowcontrol.specs.Rules.{committed, autotuned}
-use Rattle.send_buf.specs.declared.Outcome.{Outcome as SendOutcome}
-use Rattle.send_buf.specs.declared.EmitOutcome.{EmitOutcome as SentOutcome}
+use Rattle.send_buf.specs.declared.SendBuf.{SendBuf}
 use Rattle.send_buf.specs.State.{Send, buf_of as send_buf_of, GoodSend}
 use Rattle.send_buf.specs.Rules as send
 use Rattle.send_buf.proofs.Views.{view_of_lem}
 use Rattle.send_buf.proofs.Facts.{ack_only, emit_gives}
 use Rattle.send_buf.proofs.Kept.{acked_good}
-use Rattle.recv_buf.specs.declared.EmitOutcome.{EmitOutcome}
+use Rattle.recv_buf.specs.declared.RecvBuf.{RecvBuf}
 use Rattle.recv_buf.specs.State.{Recv, view_of as recv_view, buf_of}
 use Rattle.recv_buf.specs.Rules as recv
 use Rattle.recv_buf.specs.Rfc9000.{Frame, end_of, Brings}
@@ -62,28 +60,28 @@ use Rattle.tables.proofs.Tests.{either, clash, and_true}
 -- ---- what a move does to the buffers' numbers and lists
 
 -- what holds of a send buffer's view before a call, and after its success, holds after it
-after_send : (P : Send → Type 0) (said : Answer) {t s : Send} → (said ≡ Done → P t) → P s → P (sender (record { buf = send_buf_of (sent_after said t s); arena = []; written = []; frames = [] }))
-after_send P Done {t} {s} f g = subst P (sym (view_of_lem t)) (f refl)
-after_send P (Refused why) {t} {s} f g = subst P (sym (view_of_lem s)) g
+after_send : (P : Send → Type 0) (said : Result ⊤ Refusal) {t s : Send} → (said ≡ Ok tt → P t) → P s → P (sender (record { buf = send_buf_of (sent_after said t s); arena = []; written = []; frames = [] }))
+after_send P (Ok done) {t} {s} f g = subst P (sym (view_of_lem t)) (f refl)
+after_send P (Err why) {t} {s} f g = subst P (sym (view_of_lem s)) g
 
 module _ (P : Send → Type 0) (x : SendEnd) where
-  writes_elim : (input : List ℕ) (fin : Bool) → (send.write_judged (sender x) (length x.arena) (length input) fin ≡ Done → P (send.wrote (sender x) (length input) fin))
+  writes_elim : (input : List ℕ) (fin : Bool) → (send.write_judged (sender x) (length x.arena) (length input) fin ≡ Ok tt → P (send.wrote (sender x) (length input) fin))
       → P (sender x) → P (sender (writes x input fin))
   unfolding writes send.written
   writes_elim input fin f g = after_send P (send.write_judged (sender x) (length x.arena) (length input) fin) f g
 
   raises_elim : (limit : ℕ) → P (send.with_limit (sender x) (max (sender x).limit limit) (sender x).blocked) → P (sender x) → P (sender (raises x limit))
   unfolding raises send.raised
-  raises_elim limit f g = cond_elim (λ (o : SendOutcome). P (sender (with_send x o.buf))) (ltb M limit)
+  raises_elim limit f g = cond_elim (λ (o : Outcome ⊤ SendBuf). P (sender (with_send x o.state))) (ltb M limit)
       (λ _. subst P (sym (view_of_lem (sender x))) g)
       (λ _. subst P (sym (view_of_lem (send.with_limit (sender x) (max (sender x).limit limit) (sender x).blocked))) f)
 
-  blocks_elim : (at : OptionU64) → P (send.with_limit (sender x) (sender x).limit at) → P (sender (blocks x at))
+  blocks_elim : (at : Option ℕ) → P (send.with_limit (sender x) (sender x).limit at) → P (sender (blocks x at))
   unfolding blocks send.blocked_with
   blocks_elim at f = subst P (sym (view_of_lem (send.with_limit (sender x) (sender x).limit at))) f
 
   module _ (f : Frame) where
-    acks_elim : (send.ack_judged (sender x) f.from (length f.bytes) ≡ Done → P (send.acked_more (sender x) f.from (length f.bytes)))
+    acks_elim : (send.ack_judged (sender x) f.from (length f.bytes) ≡ Ok tt → P (send.acked_more (sender x) f.from (length f.bytes)))
         → P (sender x) → P (sender (acks x f))
     unfolding acks send.acks
     acks_elim h g = after_send P (send.ack_judged (sender x) f.from (length f.bytes)) h g
@@ -91,12 +89,12 @@ module _ (P : Send → Type 0) (x : SendEnd) where
     abbrev more : Send
     more = send.acked_more (sender x) f.from (length f.bytes)
 
-    ack_drops_elim : (send.ack_judged (sender x) f.from (length f.bytes) ≡ Done → P (send.dropped more (send.drop_to more f.from)))
+    ack_drops_elim : (send.ack_judged (sender x) f.from (length f.bytes) ≡ Ok tt → P (send.dropped more (send.drop_to more f.from)))
         → P (sender x) → P (sender (ack_drops x f))
     unfolding ack_drops send.ack_drops
     ack_drops_elim h g = after_send P (send.ack_judged (sender x) f.from (length f.bytes)) h g
 
-    loses_elim : (send.loss_judged (sender x) f.from (length f.bytes) ≡ Done → P (send.lost (sender x) f.from (length f.bytes)))
+    loses_elim : (send.loss_judged (sender x) f.from (length f.bytes) ≡ Ok tt → P (send.lost (sender x) f.from (length f.bytes)))
         → P (sender x) → P (sender (loses x f))
     unfolding loses send.retransmits
     loses_elim h g = after_send P (send.loss_judged (sender x) f.from (length f.bytes)) h g
@@ -115,14 +113,14 @@ emits_elim : (P : Send → List Frame → Type 0) (x : SendEnd) (out : List ℕ)
 unfolding emits send.emitted
 emits_elim P x out f g =
     cond_elim
-    (λ (o : SentOutcome). P (sender (with_send x o.buf)) (x.frames ++ frame_of (send.front (sender x)) (send.emitted_out (sender x) x.arena out) o.answer))
+    (λ (o : Outcome (ℕ × Bool) SendBuf). P (sender (with_send x o.state)) (x.frames ++ frame_of (send.front (sender x)) (send.emitted_out (sender x) x.arena out) o.answer))
     (send.other_arena (sender x) (length x.arena))
     (λ _. subst (λ (t : Send). P t (x.frames ++ [])) (sym (view_of_lem (sender x))) g)
     (λ e. subst (λ (t : Send). P t (x.frames ++ emitted_frame x out ∷ [])) (sym (view_of_lem (send.sent (sender x) (length out)))) (f e))
 
 -- the same of a receive buffer
 takes_elim : (P : Recv → List Frame → Type 0) (x : RecvEnd) (f : Frame)
-    → (recv.write_judged (receiver x) (length x.arena) f.from (length f.bytes) f.fin ≡ Done
+    → (recv.write_judged (receiver x) (length x.arena) f.from (length f.bytes) f.fin ≡ Ok tt
     → P (recv.wrote (receiver x) f.from (length f.bytes) f.fin) (x.accepted ++ f ∷ []))
     → P (receiver x) (x.accepted ++ []) → P (receiver (takes x f)) (takes x f).accepted
 unfolding takes recv.written
@@ -131,27 +129,27 @@ takes_elim P x f h g = go (recv.write_judged (receiver x) (length x.arena) f.fro
     new : Recv
     new = recv.wrote (receiver x) f.from (length f.bytes) f.fin
 
-    go : (said : Answer) → (said ≡ Done → P new (x.accepted ++ f ∷ []))
+    go : (said : Result ⊤ Refusal) → (said ≡ Ok tt → P new (x.accepted ++ f ∷ []))
         → P (receiver (record { buf = buf_of (after said new (receiver x)); arena = []; out = []; accepted = []; granted = [] })) (x.accepted ++ accepted_by said f)
-    go Done h = subst (λ (t : Recv). P t (x.accepted ++ f ∷ [])) (sym (view_buf new)) (h refl)
-    go (Refused why) h = subst (λ (t : Recv). P t (x.accepted ++ [])) (sym (view_buf (receiver x))) g
+    go (Ok done) h = subst (λ (t : Recv). P t (x.accepted ++ f ∷ [])) (sym (view_buf new)) (h refl)
+    go (Err why) h = subst (λ (t : Recv). P t (x.accepted ++ [])) (sym (view_buf (receiver x))) g
 
 -- an accepted frame
-judged_done : (x : RecvEnd) (f : Frame) → on_delivery x f ≡ Done → recv.write_judged (receiver x) (length x.arena) f.from (length f.bytes) f.fin ≡ Done
+judged_done : (x : RecvEnd) (f : Frame) → on_delivery x f ≡ Ok tt → recv.write_judged (receiver x) (length x.arena) f.from (length f.bytes) f.fin ≡ Ok tt
 unfolding recv.written
 judged_done x f said = said
 
-takes_done : (x : RecvEnd) (f : Frame) → on_delivery x f ≡ Done → receiver (takes x f) ≡ recv.wrote (receiver x) f.from (length f.bytes) f.fin
+takes_done : (x : RecvEnd) (f : Frame) → on_delivery x f ≡ Ok tt → receiver (takes x f) ≡ recv.wrote (receiver x) f.from (length f.bytes) f.fin
 unfolding takes recv.written
 takes_done x f said =
-    ap (λ (z : Answer). recv_view (buf_of (after z (recv.wrote (receiver x) f.from (length f.bytes) f.fin) (receiver x)))) said
+    ap (λ (z : Result ⊤ Refusal). recv_view (buf_of (after z (recv.wrote (receiver x) f.from (length f.bytes) f.fin) (receiver x)))) said
     ∙ view_buf (recv.wrote (receiver x) f.from (length f.bytes) f.fin)
 
-reads_elim : (P : Recv → Type 0) (x : RecvEnd) (out : List ℕ) → (recv.take_judged (receiver x) (length out) ≡ Done → P (recv.took_out (receiver x) (length out)))
+reads_elim : (P : Recv → Type 0) (x : RecvEnd) (out : List ℕ) → (recv.take_judged (receiver x) (length out) ≡ Ok tt → P (recv.took_out (receiver x) (length out)))
     → P (recv.refused_take (receiver x)) → P (receiver x) → P (receiver (reads x out))
 unfolding reads recv.emitted recv.discarded
 reads_elim P x out f g h =
-    cond_elim (λ (o : EmitOutcome). P (receiver (record { buf = o.buf; arena = []; out = []; accepted = []; granted = [] })))
+    cond_elim (λ (o : Outcome (ℕ × Bool) RecvBuf). P (receiver (record { buf = o.state; arena = []; out = []; accepted = []; granted = [] })))
     (recv.other_arena (receiver x) (length x.arena))
     (λ _. subst P (sym (view_buf (receiver x))) h)
     (λ _. go (recv.take_judged (receiver x) (length out)) f)
@@ -159,10 +157,10 @@ reads_elim P x out f g h =
     went : Recv
     went = recv.took_out (receiver x) (length out)
 
-    go : (said : Answer) → (said ≡ Done → P went)
+    go : (said : Result ⊤ Refusal) → (said ≡ Ok tt → P went)
         → P (receiver (record { buf = buf_of (after said went (recv.refused_take (receiver x))); arena = []; out = []; accepted = []; granted = [] }))
-    go Done f = subst P (sym (view_buf went)) (f refl)
-    go (Refused why) f = subst P (sym (view_buf (recv.refused_take (receiver x)))) g
+    go (Ok done) f = subst P (sym (view_buf went)) (f refl)
+    go (Err why) f = subst P (sym (view_buf (recv.refused_take (receiver x)))) g
 
 -- ---- the rule
 
@@ -272,7 +270,7 @@ module _ (Cut : ℕ → Type 0) (L top A : ℕ) (grid : Grid Cut L top) where
         (sender_same s frames r got t (send.with_limit s (max s.limit limit) s.blocked) (record { fronts = t.poised.fronts; ends = t.poised.ends }) refl refl)
         t
 
-    track_blocks : (at : OptionU64) → Track Cut top A (on_send y (blocks y.snd at))
+    track_blocks : (at : Option ℕ) → Track Cut top A (on_send y (blocks y.snd at))
     unfolding blocks
     track_blocks at =
         blocks_elim Sends y.snd at
@@ -400,7 +398,7 @@ module _ (Cut : ℕ → Type 0) (L top A : ℕ) (grid : Grid Cut L top) where
 
   -- ---- any move, and any schedule
 
-  covered : (y : System) → Inv y → (k : ℕ) (f : Frame) → get_elem? y.rcv.accepted k ≡ some f → (o : ℕ) → Brings f o → Covers (receiver y.rcv) o
+  covered : (y : System) → Inv y → (k : ℕ) (f : Frame) → slice_get y.rcv.accepted k ≡ Some f → (o : ℕ) → Brings f o → Covers (receiver y.rcv) o
   covered y i k f e = all_at (λ (f : Frame). (o : ℕ) → Brings f o → Covers (receiver y.rcv) o) y.rcv.accepted k f e i.recv_inv.covered
 
   track_step : (y : System) (m : Move) → Inv y → Track Cut top A y → All (Ended Cut top) y.snd.frames → All (Ended Cut top) (step y m).snd.frames
@@ -408,7 +406,7 @@ module _ (Cut : ℕ → Type 0) (L top A : ℕ) (grid : Grid Cut L top) where
   track_step y (write input fin) i t c d = track_writes y i t input fin
   track_step y (emit out) i t c d = track_emits y i t out d
   track_step y (deliver k) i t c d =
-      named_elim (Track Cut top A) (get_elem? y.snd.frames k) (λ f. on_recv y (takes y.rcv f)) y
+      named_elim (Track Cut top A) (slice_get y.snd.frames k) (λ f. on_recv y (takes y.rcv f)) y
       (λ f e. track_takes y i t f
       (all_at (Honest y.snd.written (sender y.snd).fin) y.snd.frames k f e i.send_inv.honest) (all_at (Ended Cut top) y.snd.frames k f e c) (all_at (Start Cut (begin (sender y.snd)) (receiver y.rcv)) y.snd.frames k f e t.starts))
       t
@@ -416,16 +414,16 @@ module _ (Cut : ℕ → Type 0) (L top A : ℕ) (grid : Grid Cut L top) where
   track_step y (commit now) i t c d = track_commits y i t now
   track_step y (tune now rtt) i t c d = track_tunes y i t now rtt
   track_step y (raise k) i t c d =
-      named_elim (Track Cut top A) (get_elem? y.rcv.granted k) (λ limit. on_send y (raises y.snd limit)) y (λ limit e. track_raises y i t limit) t
+      named_elim (Track Cut top A) (slice_get y.rcv.granted k) (λ limit. on_send y (raises y.snd limit)) y (λ limit e. track_raises y i t limit) t
   track_step y (block at) i t c d = track_blocks y i t at
   track_step y (ack k) i t c d =
-      named_elim (Track Cut top A) (get_elem? y.rcv.accepted k) (λ f. on_send y (acks y.snd f)) y
+      named_elim (Track Cut top A) (slice_get y.rcv.accepted k) (λ f. on_send y (acks y.snd f)) y
       (λ f e. track_acks y i t f (all_at (λ (f : Frame). Cut (end_of f)) y.rcv.accepted k f e t.ends) (covered y i k f e)) t
   track_step y (ack_drop k) i t c d =
-      named_elim (Track Cut top A) (get_elem? y.rcv.accepted k) (λ f. on_send y (ack_drops y.snd f)) y
+      named_elim (Track Cut top A) (slice_get y.rcv.accepted k) (λ f. on_send y (ack_drops y.snd f)) y
       (λ f e. track_ack_drops y i t f (all_at (λ (f : Frame). Cut (end_of f)) y.rcv.accepted k f e t.ends) (covered y i k f e)) t
   track_step y (lose k) i t c d =
-      named_elim (Track Cut top A) (get_elem? y.snd.frames k) (λ f. on_send y (loses y.snd f)) y
+      named_elim (Track Cut top A) (slice_get y.snd.frames k) (λ f. on_send y (loses y.snd f)) y
       (λ f e. track_loses y i t f (all_at (Ended Cut top) y.snd.frames k f e c) (all_at (Start Cut (begin (sender y.snd)) (receiver y.rcv)) y.snd.frames k f e t.starts)) t
 
   -- frames are only added
@@ -434,19 +432,19 @@ module _ (Cut : ℕ → Type 0) (L top A : ℕ) (grid : Grid Cut L top) where
   frames_step P y (write input fin) h = h
   frames_step P y (emit out) h = all_left P y.snd.frames _ h
   frames_step P y (deliver k) h =
-      named_elim (λ (z : System). All P z.snd.frames → All P y.snd.frames) (get_elem? y.snd.frames k) (λ f. on_recv y (takes y.rcv f)) y (λ f e g. g) (λ g. g) h
+      named_elim (λ (z : System). All P z.snd.frames → All P y.snd.frames) (slice_get y.snd.frames k) (λ f. on_recv y (takes y.rcv f)) y (λ f e g. g) (λ g. g) h
   frames_step P y (read out) h = h
   frames_step P y (commit now) h = h
   frames_step P y (tune now rtt) h = h
   frames_step P y (raise k) h =
-      named_elim (λ (z : System). All P z.snd.frames → All P y.snd.frames) (get_elem? y.rcv.granted k) (λ limit. on_send y (raises y.snd limit)) y (λ f e g. g) (λ g. g) h
+      named_elim (λ (z : System). All P z.snd.frames → All P y.snd.frames) (slice_get y.rcv.granted k) (λ limit. on_send y (raises y.snd limit)) y (λ f e g. g) (λ g. g) h
   frames_step P y (block at) h = h
   frames_step P y (ack k) h =
-      named_elim (λ (z : System). All P z.snd.frames → All P y.snd.frames) (get_elem? y.rcv.accepted k) (λ f. on_send y (acks y.snd f)) y (λ f e g. g) (λ g. g) h
+      named_elim (λ (z : System). All P z.snd.frames → All P y.snd.frames) (slice_get y.rcv.accepted k) (λ f. on_send y (acks y.snd f)) y (λ f e g. g) (λ g. g) h
   frames_step P y (ack_drop k) h =
-      named_elim (λ (z : System). All P z.snd.frames → All P y.snd.frames) (get_elem? y.rcv.accepted k) (λ f. on_send y (ack_drops y.snd f)) y (λ f e g. g) (λ g. g) h
+      named_elim (λ (z : System). All P z.snd.frames → All P y.snd.frames) (slice_get y.rcv.accepted k) (λ f. on_send y (ack_drops y.snd f)) y (λ f e g. g) (λ g. g) h
   frames_step P y (lose k) h =
-      named_elim (λ (z : System). All P z.snd.frames → All P y.snd.frames) (get_elem? y.snd.frames k) (λ f. on_send y (loses y.snd f)) y (λ f e g. g) (λ g. g) h
+      named_elim (λ (z : System). All P z.snd.frames → All P y.snd.frames) (slice_get y.snd.frames k) (λ f. on_send y (loses y.snd f)) y (λ f e g. g) (λ g. g) h
 
   frames_run : (P : Frame → Type 0) (ms : List Move) (y : System) → All P (run y ms).snd.frames → All P y.snd.frames
   frames_run P [] y h = h
@@ -490,21 +488,21 @@ module _ (u : Setup) (p : Premises u) where
     follow : Follows y.snd.written (sender y.snd).fin (receiver y.rcv) y.rcv.arena
     follow = inv.recv_inv.follows
 
-    fair_sent : (k : ℕ) (f : Frame) → get_elem? y.snd.frames k ≡ some f → Fair Cut top (receiver y.rcv) f.from (length f.bytes) f.fin
+    fair_sent : (k : ℕ) (f : Frame) → slice_get y.snd.frames k ≡ Some f → Fair Cut top (receiver y.rcv) f.from (length f.bytes) f.fin
     fair_sent k f e = fair_now Cut L top u.recv_room grid (begin (sender y.snd)) (receiver y.rcv) f
         (all_at (Start Cut (begin (sender y.snd)) (receiver y.rcv)) y.snd.frames k f e tracked.starts) (all_at (Ended Cut top) y.snd.frames k f e rule)
 
     -- A at most 63 L: no frame ever emitted, delivered now, is refused for the table
-    pub ends_suffice : u.recv_room ≤ 63 * L → (k : ℕ) (f : Frame) → get_elem? y.snd.frames k ≡ some f → on_delivery y.rcv f ≡ Refused TableFull → ⊥
+    pub ends_suffice : u.recv_room ≤ 63 * L → (k : ℕ) (f : Frame) → slice_get y.snd.frames k ≡ Some f → on_delivery y.rcv f ≡ Err TableFull → ⊥
     unfolding recv.written
     ends_suffice a k f e said =
         not_full (receiver y.rcv) (length y.rcv.arena) f.from (length f.bytes) f.fin Cut L top grid follow.good tracked.tidy (fair_sent k f e)
         (omega (arith, tracked.room)) said
 
     -- A below 64 L: with nothing ready, a frame ever emitted that brings the byte at off, and has at most A bytes, is accepted
-    pub ends_unblock : u.recv_room < 64 * L → (k : ℕ) (f : Frame) → get_elem? y.snd.frames k ≡ some f
+    pub ends_unblock : u.recv_room < 64 * L → (k : ℕ) (f : Frame) → slice_get y.snd.frames k ≡ Some f
         → recv.is_ready (receiver y.rcv).chunks (receiver y.rcv).off ≡ false → Brings f (receiver y.rcv).off → length f.bytes ≤ u.recv_room
-        → on_delivery y.rcv f ≡ Done
+        → on_delivery y.rcv f ≡ Ok tt
     unfolding recv.written
     ends_unblock a k f e idle b n =
         let r : Recv = receiver y.rcv in
@@ -516,7 +514,7 @@ module _ (u : Setup) (p : Premises u) where
         (fair_sent k f e) (omega arith) idle b.0 b.1 said)))
 
     -- and once it is accepted, there is something to read
-    pub ends_ready : (k : ℕ) (f : Frame) → get_elem? y.snd.frames k ≡ some f → Brings f (receiver y.rcv).off → on_delivery y.rcv f ≡ Done
+    pub ends_ready : (k : ℕ) (f : Frame) → slice_get y.snd.frames k ≡ Some f → Brings f (receiver y.rcv).off → on_delivery y.rcv f ≡ Ok tt
         → recv.is_ready (receiver (takes y.rcv f)).chunks (receiver (takes y.rcv f)).off ≡ true
     ends_ready k f e b said =
         let r : Recv = receiver y.rcv in
@@ -534,13 +532,13 @@ module _ (u : Setup) (p : Premises u) where
     zero_on : OnGrid L top 0
     zero_on = (omega arith, inr (0, sym (mul-zero L)))
 
-    pub multiples_suffice : u.recv_room ≤ 63 * L → (k : ℕ) (f : Frame) → get_elem? (run (fresh u) ms).snd.frames k ≡ some f
-        → on_delivery (run (fresh u) ms).rcv f ≡ Refused TableFull → ⊥
+    pub multiples_suffice : u.recv_room ≤ 63 * L → (k : ℕ) (f : Frame) → slice_get (run (fresh u) ms).snd.frames k ≡ Some f
+        → on_delivery (run (fresh u) ms).rcv f ≡ Err TableFull → ⊥
     multiples_suffice = ends_suffice (OnGrid L top) L top (on_grid L top) zero_on ms rule
 
-    pub multiples_unblock : u.recv_room < 64 * L → let y = run (fresh u) ms in (k : ℕ) (f : Frame) → get_elem? y.snd.frames k ≡ some f
+    pub multiples_unblock : u.recv_room < 64 * L → let y = run (fresh u) ms in (k : ℕ) (f : Frame) → slice_get y.snd.frames k ≡ Some f
         → recv.is_ready (receiver y.rcv).chunks (receiver y.rcv).off ≡ false → Brings f (receiver y.rcv).off → length f.bytes ≤ u.recv_room
-        → on_delivery y.rcv f ≡ Done
+        → on_delivery y.rcv f ≡ Ok tt
     multiples_unblock = ends_unblock (OnGrid L top) L top (on_grid L top) zero_on ms rule
 
   -- frames that end at multiples of 1,041 or more, or of 1,025 or more, do for every arena there is
@@ -577,8 +575,8 @@ module _ (x : RecvEnd) (g : Stalled (receiver x)) where
   -- what a read answers
   read_none : (out : List ℕ) → bytes_of (recv.emitted (receiver x) (length x.arena) (length out)).answer ≡ 0
   unfolding recv.emitted recv.discarded
-  read_none out = cond_elim (λ (o : EmitOutcome). bytes_of o.answer ≡ 0) (recv.other_arena (receiver x) (length x.arena)) (λ _. refl)
-      (λ _. ap (λ (said : Answer). bytes_of (with_bytes said (recv.takes (receiver x) (length out)) (is_at (receiver x).fin ((receiver x).off + recv.takes (receiver x) (length out)))))
+  read_none out = cond_elim (λ (o : Outcome (ℕ × Bool) RecvBuf). bytes_of o.answer ≡ 0) (recv.other_arena (receiver x) (length x.arena)) (λ _. refl)
+      (λ _. ap (λ (said : Result ⊤ Refusal). bytes_of (with_bytes said (recv.takes (receiver x) (length out)) (is_at (receiver x).fin ((receiver x).off + recv.takes (receiver x) (length out)))))
       (stalled_emit (receiver x) (length out) g).0)
 
   stuck_reads : (out : List ℕ) → Stuck x (reads x out)
@@ -611,19 +609,19 @@ stuck_step : (y : System) (m : Move) → Stalled (receiver y.rcv) → Stuck y.rc
 stuck_step y (write input fin) g = stuck_same y.rcv g
 stuck_step y (emit out) g = stuck_same y.rcv g
 stuck_step y (deliver k) g =
-    named_elim (λ (z : System). Stuck y.rcv z.rcv) (get_elem? y.snd.frames k) (λ f. on_recv y (takes y.rcv f)) y (λ f e. stuck_takes y.rcv g f) (stuck_same y.rcv g)
+    named_elim (λ (z : System). Stuck y.rcv z.rcv) (slice_get y.snd.frames k) (λ f. on_recv y (takes y.rcv f)) y (λ f e. stuck_takes y.rcv g f) (stuck_same y.rcv g)
 stuck_step y (read out) g = stuck_reads y.rcv g out
 stuck_step y (commit now) g = stuck_commits y.rcv g now
 stuck_step y (tune now rtt) g = stuck_tunes y.rcv g now rtt
 stuck_step y (raise k) g =
-    named_elim (λ (z : System). Stuck y.rcv z.rcv) (get_elem? y.rcv.granted k) (λ limit. on_send y (raises y.snd limit)) y (λ f e. stuck_same y.rcv g) (stuck_same y.rcv g)
+    named_elim (λ (z : System). Stuck y.rcv z.rcv) (slice_get y.rcv.granted k) (λ limit. on_send y (raises y.snd limit)) y (λ f e. stuck_same y.rcv g) (stuck_same y.rcv g)
 stuck_step y (block at) g = stuck_same y.rcv g
 stuck_step y (ack k) g =
-    named_elim (λ (z : System). Stuck y.rcv z.rcv) (get_elem? y.rcv.accepted k) (λ f. on_send y (acks y.snd f)) y (λ f e. stuck_same y.rcv g) (stuck_same y.rcv g)
+    named_elim (λ (z : System). Stuck y.rcv z.rcv) (slice_get y.rcv.accepted k) (λ f. on_send y (acks y.snd f)) y (λ f e. stuck_same y.rcv g) (stuck_same y.rcv g)
 stuck_step y (ack_drop k) g =
-    named_elim (λ (z : System). Stuck y.rcv z.rcv) (get_elem? y.rcv.accepted k) (λ f. on_send y (ack_drops y.snd f)) y (λ f e. stuck_same y.rcv g) (stuck_same y.rcv g)
+    named_elim (λ (z : System). Stuck y.rcv z.rcv) (slice_get y.rcv.accepted k) (λ f. on_send y (ack_drops y.snd f)) y (λ f e. stuck_same y.rcv g) (stuck_same y.rcv g)
 stuck_step y (lose k) g =
-    named_elim (λ (z : System). Stuck y.rcv z.rcv) (get_elem? y.snd.frames k) (λ f. on_send y (loses y.snd f)) y (λ f e. stuck_same y.rcv g) (stuck_same y.rcv g)
+    named_elim (λ (z : System). Stuck y.rcv z.rcv) (slice_get y.snd.frames k) (λ f. on_send y (loses y.snd f)) y (λ f e. stuck_same y.rcv g) (stuck_same y.rcv g)
 
 -- whatever schedule follows
 pub stalled_run : (ms : List Move) (y : System) → Stalled (receiver y.rcv) → Stuck y.rcv (run y ms).rcv

@@ -1,5 +1,6 @@
 -- The receiver's end keeps to the stream W of the bytes accepted for writing, and to the sender's final size sf, whatever honest frame comes and
 -- whatever else is called. Assumes nothing.
+use Rattle.std.specs.Prelude.{Option, None, Some, Result, Ok, Err, ⊤}
 use mathlib.Core.Path.{◌≡◌, refl, sym, ap, subst, ◌∙◌}
 use mathlib.Core.Logic.{◌⊎◌, inl, inr}
 use mathlib.Core.Bool.{Bool, true, false, cond, not, ◌&&◌, false≢true}
@@ -11,12 +12,9 @@ use lib.ListN.{length, get_or, take, drop, length-append, get_or-append}
 use lib.Seq.{take-append-le, take_at}
 use borrow.Author.Tests.{ne_eqb, eq-eqb, le-ltb, not-true}
 use Rattle.refusal.specs.Rules.{M}
-use Rattle.refusal.specs.declared.Answer.{Answer}
-use Rattle.refusal.specs.declared.Answer.TheVariants.{Done, Refused}
-use Rattle.refusal.specs.declared.EmitAnswer.TheVariants.{Emitted, Refused as NoBytes}
+use Rattle.refusal.specs.declared.Refusal.{Refusal}
+use Rattle.refusal.specs.declared.Outcome.{Outcome}
 use Rattle.refusal.specs.declared.Refusal.TheVariants.{Offset, NoRoom, TableFull, Done as NothingReady}
-use Rattle.refusal.specs.declared.OptionU64.{OptionU64}
-use Rattle.refusal.specs.declared.OptionU64.TheVariants.{None, Some}
 use Rattle.arena.specs.Rules.{byte_at, held}
 use Rattle.arena.proofs.Laws.{length_held}
 use Rattle.flowcontrol.specs.declared.FlowControl.{FlowControl}
@@ -24,7 +22,6 @@ use Rattle.flowcontrol.specs.State.{Good as GoodFlow}
 use Rattle.flowcontrol.specs.Rules as flow
 use Rattle.tables.proofs.Tables.{cases, by_test, cond_elim}
 use Rattle.recv_buf.specs.declared.RecvBuf.{RecvBuf}
-use Rattle.recv_buf.specs.declared.EmitOutcome.{EmitOutcome}
 use Rattle.recv_buf.specs.State.{Recv, view_of, buf_of, Held, GoodRecv}
 use Rattle.recv_buf.specs.Rules as recv
 use Rattle.recv_buf.specs.Rfc9000.{Frame, Brings}
@@ -45,7 +42,7 @@ use Rattle.refusal.specs.Rules as words
 
 -- ---- a receive buffer r with the arena ar that follows the stream W
 
-pub record Follows (W : List ℕ) (sf : OptionU64) (r : Recv) (ar : List ℕ) : Type 0 where
+pub record Follows (W : List ℕ) (sf : Option ℕ) (r : Recv) (ar : List ℕ) : Type 0 where
   pub good : GoodRecv r
   pub some_room : 0 < r.room
   pub size : length ar ≡ r.room
@@ -78,7 +75,7 @@ new_follows A limit maximum ar a top e l m = record {
 }
 
 -- the stream grows
-more_follows : (W X : List ℕ) (sf sf' : OptionU64) (r : Recv) (ar : List ℕ) → ((x : ℕ) → sf ≡ Some x → sf' ≡ Some x) → Follows W sf r ar → Follows (W ++ X) sf' r ar
+more_follows : (W X : List ℕ) (sf sf' : Option ℕ) (r : Recv) (ar : List ℕ) → ((x : ℕ) → sf ≡ Some x → sf' ≡ Some x) → Follows W sf r ar → Follows (W ++ X) sf' r ar
 more_follows W X sf sf' r ar h g = record {
   good = g.good;
   some_room = g.some_room;
@@ -92,18 +89,18 @@ more_follows W X sf sf' r ar h g = record {
   fin_known = λ f e. h f (g.fin_known f e);
 }
 
-arena_fits : (W : List ℕ) (sf : OptionU64) (r : Recv) (ar : List ℕ) → Follows W sf r ar → recv.other_arena r (length ar) ≡ false
+arena_fits : (W : List ℕ) (sf : Option ℕ) (r : Recv) (ar : List ℕ) → Follows W sf r ar → recv.other_arena r (length ar) ≡ false
 arena_fits W sf r ar g =
     let z : length ar ≡ 0 → ⊥ = λ e. omega (arith, g.size, g.some_room) in
     rw (ne_eqb (length ar) 0 z, eq-eqb (length ar) r.room g.size)
 
 -- ---- an honest frame
 
-fin_after : (sf f : OptionU64) (e : ℕ) (m : Bool) → (m ≡ true → sf ≡ Some e) → ((x : ℕ) → f ≡ Some x → sf ≡ Some x) → (x : ℕ) → words.fin_with f e m ≡ Some x → sf ≡ Some x
+fin_after : (sf f : Option ℕ) (e : ℕ) (m : Bool) → (m ≡ true → sf ≡ Some e) → ((x : ℕ) → f ≡ Some x → sf ≡ Some x) → (x : ℕ) → words.fin_with f e m ≡ Some x → sf ≡ Some x
 fin_after sf f e true h k x d = h refl ∙ d
 fin_after sf f e false h k x d = k x d
 
-module _ (W : List ℕ) (sf : OptionU64) (r : Recv) (ar : List ℕ) (f : Frame) (g : Follows W sf r ar) (h : Honest W sf f) where
+module _ (W : List ℕ) (sf : Option ℕ) (r : Recv) (ar : List ℕ) (f : Frame) (g : Follows W sf r ar) (h : Honest W sf f) where
   abbrev n : ℕ
   n = length f.bytes
 
@@ -133,7 +130,7 @@ module _ (W : List ℕ) (sf : OptionU64) (r : Recv) (ar : List ℕ) (f : Frame) 
       go false (inl k) = k
       go false (inr k) = absurd (false≢true k)
 
-  module _ (said : recv.write_judged r (length ar) f.from n f.fin ≡ Done) where
+  module _ (said : recv.write_judged r (length ar) f.from n f.fin ≡ Ok tt) where
     ok : Accepted r (length ar) f.from n f.fin
     ok = accepted r (length ar) f.from n f.fin said
 
@@ -186,7 +183,7 @@ module _ (W : List ℕ) (sf : OptionU64) (r : Recv) (ar : List ℕ) (f : Frame) 
     fits_final : recv.passes_final r.fin r.len (f.from + n) f.fin ≡ false
     fits_final = go r.fin g.fin_known f.fin h.marked
       where
-        go : (x : OptionU64) → ((y : ℕ) → x ≡ Some y → sf ≡ Some y) → (b : Bool) → (b ≡ true → sf ≡ Some (f.from + n)) → recv.passes_final x r.len (f.from + n) b ≡ false
+        go : (x : Option ℕ) → ((y : ℕ) → x ≡ Some y → sf ≡ Some y) → (b : Bool) → (b ≡ true → sf ≡ Some (f.from + n)) → recv.passes_final x r.len (f.from + n) b ≡ false
         go None k false d = refl
         go None k true d = le-ltb (f.from + n) r.len (omega (arith, final (f.from + n) (d refl), g.len_written))
         go (Some y) k false d = rw (le-ltb y (f.from + n) (omega (arith, final y (k y refl), h.inside)))
@@ -196,7 +193,7 @@ module _ (W : List ℕ) (sf : OptionU64) (r : Recv) (ar : List ℕ) (f : Frame) 
             rw (le-ltb y (f.from + n) (omega arith), eq-eqb (f.from + n) y (omega arith), le-ltb (f.from + n) r.len (omega (arith, g.len_written)))
 
     pub judged : f.from + n ≤ r.flow.max_data → f.from + n ≤ M
-        → recv.write_judged r (length ar) f.from n f.fin ≡ cond (recv.no_room r f.from n) (Refused NoRoom) (cond (recv.no_entry r f.from n f.fin) (Refused TableFull) Done)
+        → recv.write_judged r (length ar) f.from n f.fin ≡ cond (recv.no_room r f.from n) (Err NoRoom) (cond (recv.no_entry r f.from n f.fin) (Err TableFull) (Ok tt))
     unfolding recv.write_judged
     judged lim top =
         undecided (arena_fits W sf r ar g) _ _
@@ -206,7 +203,7 @@ module _ (W : List ℕ) (sf : OptionU64) (r : Recv) (ar : List ℕ) (f : Frame) 
 
 -- ---- a read
 
-module _ (W : List ℕ) (sf : OptionU64) (r : Recv) (ar : List ℕ) (g : Follows W sf r ar) (n : ℕ) where
+module _ (W : List ℕ) (sf : Option ℕ) (r : Recv) (ar : List ℕ) (g : Follows W sf r ar) (n : ℕ) where
   abbrev count : ℕ
   count = recv.takes r n
 
@@ -214,14 +211,14 @@ module _ (W : List ℕ) (sf : OptionU64) (r : Recv) (ar : List ℕ) (g : Follows
   in_len = chunk.taken_within r.chunks r.len r.off n g.good.chain g.good.within g.good.off_len
 
   -- ready, it is accepted: what is consumed is `off`, and that never passes M
-  judged_ready : recv.is_ready r.chunks r.off ≡ true → recv.take_judged r n ≡ Done
+  judged_ready : recv.is_ready r.chunks r.off ≡ true → recv.take_judged r n ≡ Ok tt
   unfolding recv.take_judged
   judged_ready e =
       undecided (ap not e) _ _
-      ∙ ap (λ (x : OptionU64). recv.unless_reset x (cond (ltb M (r.flow.consumed + count)) (Refused Offset) Done)) g.unreset
+      ∙ ap (λ (x : Option ℕ). recv.unless_reset x (cond (ltb M (r.flow.consumed + count)) (Err Offset) (Ok tt))) g.unreset
       ∙ undecided (le-ltb M (r.flow.consumed + count) (omega (arith, g.all_consumed, in_len, g.good.len_in))) _ _
 
-  judged_idle : recv.is_ready r.chunks r.off ≡ false → recv.take_judged r n ≡ Refused NothingReady
+  judged_idle : recv.is_ready r.chunks r.off ≡ false → recv.take_judged r n ≡ Err NothingReady
   unfolding recv.take_judged
   judged_idle e = decided (ap not e) _ _
 
@@ -256,7 +253,7 @@ module _ (W : List ℕ) (sf : OptionU64) (r : Recv) (ar : List ℕ) (g : Follows
       ∙ ap (λ (k : ℕ). take (r.off + k) W) l
 
 -- all is covered and nothing is ready: all was handed out
-pub done_all : (W : List ℕ) (sf : OptionU64) (r : Recv) (ar : List ℕ) → Follows W sf r ar → ((o : ℕ) → o < length W → Covers r o) → recv.is_ready r.chunks r.off ≡ false → r.off ≡ length W
+pub done_all : (W : List ℕ) (sf : Option ℕ) (r : Recv) (ar : List ℕ) → Follows W sf r ar → ((o : ℕ) → o < length W → Covers r o) → recv.is_ready r.chunks r.off ≡ false → r.off ≡ length W
 done_all W sf r ar g c e =
     cases r.off (length W)
     (λ h. either (c r.off h) (λ x. absurd (omega arith)) (λ x. clash (sym (chunk.held_ready r.chunks r.off g.good.chain x) ∙ e)))
@@ -264,7 +261,7 @@ done_all W sf r ar g c e =
 
 -- ---- the window
 
-flow_follows : (W : List ℕ) (sf : OptionU64) (r : Recv) (ar : List ℕ) (w : FlowControl) → GoodFlow w → Steady w → w.consumed ≡ r.flow.consumed
+flow_follows : (W : List ℕ) (sf : Option ℕ) (r : Recv) (ar : List ℕ) (w : FlowControl) → GoodFlow w → Steady w → w.consumed ≡ r.flow.consumed
     → Follows W sf r ar → Follows W sf (recv.with_flow r w) ar
 flow_follows W sf r ar w h s c g = record {
   good = flow_good r g.good w h;
@@ -281,7 +278,7 @@ flow_follows W sf r ar w h s c g = record {
 
 -- ---- the receiver's end: its buffer r, its arena, the bytes handed out, the frames accepted and the limits granted
 
-pub record Has (W : List ℕ) (sf : OptionU64) (r : Recv) (ar out : List ℕ) (fs : List Frame) (vs : List ℕ) : Type 0 where
+pub record Has (W : List ℕ) (sf : Option ℕ) (r : Recv) (ar out : List ℕ) (fs : List Frame) (vs : List ℕ) : Type 0 where
   pub follows : Follows W sf r ar
   pub prefix : out ≡ take r.off W
   pub grants : All (λ (v : ℕ). v ≤ r.flow.max_data) vs
@@ -289,20 +286,20 @@ pub record Has (W : List ℕ) (sf : OptionU64) (r : Recv) (ar out : List ℕ) (f
   pub covered : All (λ (f : Frame). (o : ℕ) → Brings f o → Covers r o) fs
   pub marks : All (λ (f : Frame). f.fin ≡ true → words.known r.fin ≡ true) fs
 
-abbrev pub RecvInv : List ℕ → OptionU64 → RecvEnd → Type 0
+abbrev pub RecvInv : List ℕ → Option ℕ → RecvEnd → Type 0
 RecvInv W sf x = Has W sf (receiver x) x.arena x.out x.accepted x.granted
 
 -- and its limit has not fallen below v
-abbrev Gets : ℕ → List ℕ → OptionU64 → Recv → List ℕ → List ℕ → List Frame → List ℕ → Type 0
+abbrev Gets : ℕ → List ℕ → Option ℕ → Recv → List ℕ → List ℕ → List Frame → List ℕ → Type 0
 Gets v W sf r ar out fs vs = Has W sf r ar out fs vs × (v ≤ r.flow.max_data)
 
-abbrev pub RecvStep : List ℕ → OptionU64 → RecvEnd → RecvEnd → Type 0
+abbrev pub RecvStep : List ℕ → Option ℕ → RecvEnd → RecvEnd → Type 0
 RecvStep W sf x z = Gets (receiver x).flow.max_data W sf (receiver z) z.arena z.out z.accepted z.granted
 
-of_buf : (v : ℕ) (W : List ℕ) (sf : OptionU64) (r : Recv) (ar out : List ℕ) (fs : List Frame) (vs : List ℕ) → Gets v W sf r ar out fs vs → Gets v W sf (view_of (buf_of r)) ar out fs vs
+of_buf : (v : ℕ) (W : List ℕ) (sf : Option ℕ) (r : Recv) (ar out : List ℕ) (fs : List Frame) (vs : List ℕ) → Gets v W sf r ar out fs vs → Gets v W sf (view_of (buf_of r)) ar out fs vs
 of_buf v W sf r ar out fs vs = subst (λ (y : Recv). Gets v W sf y ar out fs vs) (sym (view_buf r))
 
-pub more_inv : (W X : List ℕ) (sf sf' : OptionU64) (x : RecvEnd) → ((f : ℕ) → sf ≡ Some f → sf' ≡ Some f) → RecvInv W sf x → RecvInv (W ++ X) sf' x
+pub more_inv : (W X : List ℕ) (sf sf' : Option ℕ) (x : RecvEnd) → ((f : ℕ) → sf ≡ Some f → sf' ≡ Some f) → RecvInv W sf x → RecvInv (W ++ X) sf' x
 more_inv W X sf sf' x h i = record {
   follows = more_follows W X sf sf' (receiver x) x.arena h i.follows;
   prefix = i.prefix ∙ sym (take-append-le (receiver x).off W X (omega (arith, i.follows.good.off_len, i.follows.len_written)));
@@ -311,7 +308,7 @@ more_inv W X sf sf' x h i = record {
   marks = i.marks;
 }
 
-module _ (W : List ℕ) (sf : OptionU64) (x : RecvEnd) (i : RecvInv W sf x) where
+module _ (W : List ℕ) (sf : Option ℕ) (x : RecvEnd) (i : RecvInv W sf x) where
   abbrev r : Recv
   r = receiver x
 
@@ -334,8 +331,8 @@ module _ (W : List ℕ) (sf : OptionU64) (x : RecvEnd) (i : RecvInv W sf x) wher
       lim : t.flow.max_data ≡ r.flow.max_data
       lim = ap (λ (w : FlowControl). w.max_data) (wrote_same W sf r x.arena f i.follows h).0
 
-      done : recv.write_judged r (length x.arena) f.from n f.fin ≡ Done → Gets r.flow.max_data W sf t now x.out (x.accepted ++ f ∷ []) x.granted
-      done e = (
+      after_ok : recv.write_judged r (length x.arena) f.from n f.fin ≡ Ok tt → Gets r.flow.max_data W sf t now x.out (x.accepted ++ f ∷ []) x.granted
+      after_ok e = (
         record {
           follows = wrote_follows W sf r x.arena f i.follows h e;
           prefix = i.prefix ∙ ap (λ (o : ℕ). take o W) (sym (wrote_same W sf r x.arena f i.follows h).1);
@@ -350,57 +347,57 @@ module _ (W : List ℕ) (sf : OptionU64) (x : RecvEnd) (i : RecvInv W sf x) wher
         omega (arith, lim),
       )
 
-      go : (said : Answer) → recv.write_judged r (length x.arena) f.from n f.fin ≡ said
+      go : (said : Result ⊤ Refusal) → recv.write_judged r (length x.arena) f.from n f.fin ≡ said
           → Gets r.flow.max_data W sf (view_of (buf_of (words.after said t r))) (words.after said (cond r.drain x.arena now) x.arena) x.out (x.accepted ++ accepted_by said f) x.granted
-      go Done e =
+      go (Ok done) e =
           subst (λ (d : Bool). Gets r.flow.max_data W sf (view_of (buf_of t)) (cond d x.arena now) x.out (x.accepted ++ f ∷ []) x.granted) (sym i.follows.reading)
-          (of_buf r.flow.max_data W sf t now x.out (x.accepted ++ f ∷ []) x.granted (done e))
-      go (Refused why) e = subst (λ (fs : List Frame). Gets r.flow.max_data W sf (view_of (buf_of r)) x.arena x.out fs x.granted) (sym (append-nil x.accepted)) same
+          (of_buf r.flow.max_data W sf t now x.out (x.accepted ++ f ∷ []) x.granted (after_ok e))
+      go (Err why) e = subst (λ (fs : List Frame). Gets r.flow.max_data W sf (view_of (buf_of r)) x.arena x.out fs x.granted) (sym (append-nil x.accepted)) same
 
   -- a read of a ready buffer, and of one that is not
   abbrev to : RecvBuf → List ℕ → RecvEnd
-  to b out = record { buf = b; arena = x.arena; out = out; accepted = x.accepted; granted = x.granted }
+  to b out = record x { buf = b; out = out }
 
   module _ (out : List ℕ) where
     abbrev k : ℕ
     k = recv.takes r (length out)
 
-    abbrev outcome : Answer → EmitOutcome
-    outcome said = record { answer = words.with_bytes said k (words.is_at r.fin (r.off + k)); buf = buf_of (words.after said (recv.took_out r (length out)) (recv.refused_take r)) }
+    abbrev outcome : Result ⊤ Refusal → Outcome (ℕ × Bool) RecvBuf
+    outcome said = record { answer = words.with_bytes said k (words.is_at r.fin (r.off + k)); state = buf_of (words.after said (recv.took_out r (length out)) (recv.refused_take r)) }
 
-    abbrev output : Answer → List ℕ
+    abbrev output : Result ⊤ Refusal → List ℕ
     output said = words.after said (held x.arena r.off k ++ drop k out) out
 
-    emitted_is : (said : Answer) → recv.take_judged r (length out) ≡ said → recv.emitted r (length x.arena) (length out) ≡ outcome said
+    emitted_is : (said : Result ⊤ Refusal) → recv.take_judged r (length out) ≡ said → recv.emitted r (length x.arena) (length out) ≡ outcome said
     unfolding recv.emitted recv.discarded
     emitted_is said e = undecided (arena_fits W sf r x.arena i.follows) _ _ ∙ ap outcome e
 
-    emitted_out_is : (said : Answer) → recv.take_judged r (length out) ≡ said → recv.emitted_out r x.arena out ≡ output said
+    emitted_out_is : (said : Result ⊤ Refusal) → recv.take_judged r (length out) ≡ said → recv.emitted_out r x.arena out ≡ output said
     unfolding recv.emitted_out
     emitted_out_is said e = undecided (arena_fits W sf r x.arena i.follows) _ _ ∙ ap output e
 
-    reads_is : (said : Answer) → recv.take_judged r (length out) ≡ said → reads x out ≡ to (outcome said).buf (x.out ++ take (bytes_of (outcome said).answer) (output said))
+    reads_is : (said : Result ⊤ Refusal) → recv.take_judged r (length out) ≡ said → reads x out ≡ to (outcome said).state (x.out ++ take (bytes_of (outcome said).answer) (output said))
     unfolding reads
     reads_is said e =
-        ap (λ (o : EmitOutcome). to o.buf (x.out ++ take (bytes_of o.answer) (recv.emitted_out r x.arena out))) (emitted_is said e)
-        ∙ ap (λ (l : List ℕ). to (outcome said).buf (x.out ++ take (bytes_of (outcome said).answer) l)) (emitted_out_is said e)
+        ap (λ (o : Outcome (ℕ × Bool) RecvBuf). to o.state (x.out ++ take (bytes_of o.answer) (recv.emitted_out r x.arena out))) (emitted_is said e)
+        ∙ ap (λ (l : List ℕ). to (outcome said).state (x.out ++ take (bytes_of (outcome said).answer) l)) (emitted_out_is said e)
 
     pub reads_ready : recv.is_ready r.chunks r.off ≡ true → reads x out ≡ to (buf_of (recv.took_out r (length out))) (x.out ++ held x.arena r.off k)
     reads_ready e =
-        reads_is Done (judged_ready W sf r x.arena i.follows (length out) e)
+        reads_is (Ok tt) (judged_ready W sf r x.arena i.follows (length out) e)
         ∙ ap (λ (l : List ℕ). to (buf_of (recv.took_out r (length out))) (x.out ++ l)) (take_at (held x.arena r.off k) (drop k out) k (length_held x.arena r.off k))
 
     pub reads_idle : recv.is_ready r.chunks r.off ≡ false → reads x out ≡ to (buf_of r) x.out
     reads_idle e =
-        reads_is (Refused NothingReady) (judged_idle W sf r x.arena i.follows (length out) e)
+        reads_is (Err NothingReady) (judged_idle W sf r x.arena i.follows (length out) e)
         ∙ ap (λ (t : Bool). to (buf_of (cond (t && words.known r.error) (recv.with_chunks r []) r)) (x.out ++ [])) e
         ∙ ap (to (buf_of r)) (append-nil x.out)
 
-    pub answer_ready : recv.is_ready r.chunks r.off ≡ true → on_read x out ≡ Emitted k (words.is_at r.fin (r.off + k))
-    answer_ready e = ap (λ (o : EmitOutcome). o.answer) (emitted_is Done (judged_ready W sf r x.arena i.follows (length out) e))
+    pub answer_ready : recv.is_ready r.chunks r.off ≡ true → on_read x out ≡ Ok (k, words.is_at r.fin (r.off + k))
+    answer_ready e = ap (λ (o : Outcome (ℕ × Bool) RecvBuf). o.answer) (emitted_is (Ok tt) (judged_ready W sf r x.arena i.follows (length out) e))
 
-    pub answer_idle : recv.is_ready r.chunks r.off ≡ false → on_read x out ≡ NoBytes NothingReady
-    answer_idle e = ap (λ (o : EmitOutcome). o.answer) (emitted_is (Refused NothingReady) (judged_idle W sf r x.arena i.follows (length out) e))
+    pub answer_idle : recv.is_ready r.chunks r.off ≡ false → on_read x out ≡ Err NothingReady
+    answer_idle e = ap (λ (o : Outcome (ℕ × Bool) RecvBuf). o.answer) (emitted_is (Err NothingReady) (judged_idle W sf r x.arena i.follows (length out) e))
 
     -- what is covered stays covered, and a known final size stays known
     took : recv.is_ready r.chunks r.off ≡ true

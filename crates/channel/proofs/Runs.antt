@@ -1,5 +1,6 @@
 -- Demand 3 is not empty: twelve computed schedules meet its premises (`streams_lawful`), finish, and are whole (`streams_end`), and
 -- `completeness` applies to one that waits to be read (`byte_by_byte`). Assumes nothing.
+use Rattle.std.specs.Prelude.{Option, None, Some, Result, Ok, Err}
 use mathlib.Core.Path.{◌≡◌, refl, sym, ap, ◌∙◌}
 use mathlib.Core.Logic.{inl, inr}
 use mathlib.Core.Bool.{Bool, true, false, ◌&&◌, ◌||◌}
@@ -10,12 +11,8 @@ use lib.Dec.{ltb, leb}
 use lib.ListN.{length, take, drop, replicate, length-replicate}
 use borrow.Author.Tests.{leb-true, ltb-true}
 use Rattle.refusal.specs.Rules.{M}
-use Rattle.refusal.specs.declared.CountAnswer.TheVariants.{Count}
-use Rattle.refusal.specs.declared.EmitAnswer.{EmitAnswer}
-use Rattle.refusal.specs.declared.EmitAnswer.TheVariants.{Refused as NoBytes}
+use Rattle.refusal.specs.declared.Refusal.{Refusal}
 use Rattle.refusal.specs.declared.Refusal.TheVariants.{Done as NothingReady}
-use Rattle.refusal.specs.declared.OptionU64.{OptionU64}
-use Rattle.refusal.specs.declared.OptionU64.TheVariants.{None, Some}
 use Rattle.arena.specs.Rules.{kept, held}
 use Rattle.tables.proofs.Tables.{cases}
 use Rattle.send_buf.specs.State.{buf_of as send_buf_of}
@@ -78,9 +75,9 @@ pub record Seen : Type 0 where
   finished : Bool
   written : List ℕ
   out : List ℕ
-  sent_size : OptionU64
-  got_size : OptionU64
-  next : EmitAnswer  -- what a read with room for a byte answers
+  sent_size : Option ℕ
+  got_size : Option ℕ
+  next : (Result (ℕ × Bool) Refusal)  -- what a read with room for a byte answers
 
 abbrev pub seen : System → Seen
 seen y = record {
@@ -94,7 +91,7 @@ seen y = record {
 
 -- all is there
 abbrev whole : List ℕ → Seen
-whole bytes = record { finished = true; written = bytes; out = bytes; sent_size = Some (length bytes); got_size = Some (length bytes); next = NoBytes NothingReady }
+whole bytes = record { finished = true; written = bytes; out = bytes; sent_size = Some (length bytes); got_size = Some (length bytes); next = Err NothingReady }
 
 -- ---- buffers for arenas of A and B bytes full of rubbish; outputs with room for n bytes
 
@@ -266,7 +263,7 @@ unfolding fresh writes emits raises blocks acks ack_drops loses takes reads comm
 streams_end = refl
 
 -- the blocked stream, when it is first stopped: four bytes were accepted, the limit leaves none, and the offset is recorded
-pub blocked_is : let x = (run (fresh blocked.setup) stopped).snd in (x.written ≡ take 4 abc) × (send.cap (sender x) ≡ Count 0) × ((sender x).blocked ≡ Some 4)
+pub blocked_is : let x = (run (fresh blocked.setup) stopped).snd in (x.written ≡ take 4 abc) × (send.cap (sender x) ≡ Ok 0) × ((sender x).blocked ≡ Some 4)
 unfolding fresh writes blocks send_buf_of kept send.created send.write_judged send.wrote send.written send.blocked_with
 blocked_is = (refl, refl, refl)
 

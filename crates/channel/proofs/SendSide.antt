@@ -1,4 +1,5 @@
 -- The sender's end keeps to the stream W of the bytes accepted for writing, whatever move is made. Assumes nothing.
+use Rattle.std.specs.Prelude.{Option, None, Some, Result, Ok, Err, ⊤}
 use mathlib.Core.Path.{◌≡◌, refl, sym, ap, subst, ◌∙◌}
 use mathlib.Core.Bool.{Bool, true, false, cond, ◌&&◌}
 use mathlib.Core.List.{List, [], ◌∷◌, ◌++◌, append-nil}
@@ -8,17 +9,13 @@ use lib.Dec.{ltb, eqb}
 use lib.ListN.{length, get_or, take, length-append, length-take, get_or-append}
 use borrow.Author.Tests.{ltb-false, eqb-true, ne_eqb, eq-eqb}
 use Rattle.refusal.specs.Rules.{M, with_count}
-use Rattle.refusal.specs.declared.Answer.{Answer}
-use Rattle.refusal.specs.declared.Answer.TheVariants.{Done, Refused}
-use Rattle.refusal.specs.declared.EmitAnswer.TheVariants.{Emitted, Refused as NoBytes}
+use Rattle.refusal.specs.declared.Refusal.{Refusal}
+use Rattle.refusal.specs.declared.Outcome.{Outcome}
 use Rattle.refusal.specs.declared.Refusal.TheVariants.{BadSetup}
-use Rattle.refusal.specs.declared.OptionU64.{OptionU64}
-use Rattle.refusal.specs.declared.OptionU64.TheVariants.{None, Some}
 use Rattle.arena.specs.Rules.{byte_at, kept, held}
 use Rattle.arena.proofs.Laws.{length_kept, length_held}
 use Rattle.tables.proofs.Tables.{cond_elim}
-use Rattle.send_buf.specs.declared.Outcome.{Outcome}
-use Rattle.send_buf.specs.declared.EmitOutcome.{EmitOutcome}
+use Rattle.send_buf.specs.declared.SendBuf.{SendBuf}
 use Rattle.send_buf.specs.State.{Send, view_of, buf_of, base, GoodSend}
 use Rattle.send_buf.specs.Rules as send
 use Rattle.send_buf.proofs.Views.{view_of_lem}
@@ -63,7 +60,7 @@ new_carries A limit ar a top e l =
 -- ---- write
 
 -- a known final size stays
-fin_stays : (f : OptionU64) (off n : ℕ) (mk : Bool) → send.passes_final f (off + n) mk ≡ false → ((x : ℕ) → f ≡ Some x → x ≡ off)
+fin_stays : (f : Option ℕ) (off n : ℕ) (mk : Bool) → send.passes_final f (off + n) mk ≡ false → ((x : ℕ) → f ≡ Some x → x ≡ off)
     → (x : ℕ) → f ≡ Some x → words.fin_with f (off + n) mk ≡ Some x
 fin_stays f off n false b h x e = e
 fin_stays None off n true b h x e = let z : ◌≡◌ {A = ℕ} 0 1 = cc in absurd (omega arith)
@@ -72,7 +69,7 @@ fin_stays (Some f) off n true b h x e =
     let w : f ≡ x = cc in
     ap Some (omega (arith, h x e, ltb-false f (off + n) p.0))
 
-module _ (W : List ℕ) (s : Send) (ar : List ℕ) (input : List ℕ) (fin : Bool) (g : Carries W s ar) (said : send.write_judged s (length ar) (length input) fin ≡ Done) where
+module _ (W : List ℕ) (s : Send) (ar : List ℕ) (input : List ℕ) (fin : Bool) (g : Carries W s ar) (said : send.write_judged s (length ar) (length input) fin ≡ Ok tt) where
   abbrev k : ℕ
   k = send.accepted s (length input)
 
@@ -128,7 +125,7 @@ module _ (W : List ℕ) (s : Send) (ar : List ℕ) (g : Carries W s ar) where
     running = g.running;
   }
 
-  acked_carries : (a n : ℕ) → send.ack_judged s a n ≡ Done → Carries W (send.acked_more s a n) ar
+  acked_carries : (a n : ℕ) → send.ack_judged s a n ≡ Ok tt → Carries W (send.acked_more s a n) ar
   unfolding send.acked_more
   acked_carries a n e = record {
     good = acked_good s g.good a n e;
@@ -149,7 +146,7 @@ module _ (W : List ℕ) (s : Send) (ar : List ℕ) (g : Carries W s ar) where
     running = g.running;
   }
 
-  lost_carries : (a n : ℕ) → send.loss_judged s a n ≡ Done → Carries W (send.lost s a n) ar
+  lost_carries : (a n : ℕ) → send.loss_judged s a n ≡ Ok tt → Carries W (send.lost s a n) ar
   unfolding send.lost
   lost_carries a n e =
       cond_elim (λ (t : Send). GoodSend t → Carries W t ar) (send.settled s a n)
@@ -174,7 +171,7 @@ module _ (W : List ℕ) (s : Send) (ar : List ℕ) (g : Carries W s ar) where
     running = g.running;
   }
 
-  blocked_carries : (at : OptionU64) → Carries W (send.with_limit s s.limit at) ar
+  blocked_carries : (at : Option ℕ) → Carries W (send.with_limit s s.limit at) ar
   blocked_carries at = record {
     good = blocked_good s g.good at;
     some_room = g.some_room;
@@ -190,19 +187,19 @@ lost_same s a n = cond_elim (λ (t : Send). (t.fin ≡ s.fin) × (t.limit ≡ s.
 
 -- ---- a frame that a sender of W, with final size sf if known, can have emitted: its bytes are the stream's, its mark stands at the final size
 
-pub record Honest (W : List ℕ) (sf : OptionU64) (f : Frame) : Type 0 where
+pub record Honest (W : List ℕ) (sf : Option ℕ) (f : Frame) : Type 0 where
   pub agrees : Agrees W f.from f.bytes
   pub inside : end_of f ≤ length W
   pub marked : f.fin ≡ true → sf ≡ Some (end_of f)
 
-honest_more : (W X : List ℕ) (sf sf' : OptionU64) (f : Frame) → ((x : ℕ) → sf ≡ Some x → sf' ≡ Some x) → Honest W sf f → Honest (W ++ X) sf' f
+honest_more : (W X : List ℕ) (sf sf' : Option ℕ) (f : Frame) → ((x : ℕ) → sf ≡ Some x → sf' ≡ Some x) → Honest W sf f → Honest (W ++ X) sf' f
 honest_more W X sf sf' f h k = record {
   agrees = agrees_more W X f.from f.bytes k.inside k.agrees;
   inside = omega (arith, length-append W X, k.inside);
   marked = λ e. h (end_of f) (k.marked e);
 }
 
-at_end : (f : OptionU64) (o : ℕ) → words.is_at f o ≡ true → f ≡ Some o
+at_end : (f : Option ℕ) (o : ℕ) → words.is_at f o ≡ true → f ≡ Some o
 at_end None o e = let z : ◌≡◌ {A = ℕ} 0 1 = cc in absurd (omega arith)
 at_end (Some f) o e = ap Some (eqb-true f o e)
 
@@ -252,7 +249,7 @@ module _ (x : SendEnd) (i : SendInv x) where
   still v t c f l =
       of_buf v x t x.arena x.written x.frames (record {
         carries = c;
-        honest = subst (λ (y : OptionU64). All (Honest x.written y) x.frames) (sym f) i.honest;
+        honest = subst (λ (y : Option ℕ). All (Honest x.written y) x.frames) (sym f) i.honest;
         more = [];
         grown = sym (append-nil x.written);
         fin_stays = λ y e. f ∙ e;
@@ -281,9 +278,9 @@ module _ (x : SendEnd) (i : SendInv x) where
       k : ℕ
       k = send.accepted s n
 
-      go : (said : Answer) → send.write_judged s (length ar) n fin ≡ said
+      go : (said : Result ⊤ Refusal) → send.write_judged s (length ar) n fin ≡ said
           → Goes 0 x (view_of (buf_of (words.after said (send.wrote s n fin) s))) (words.after said (kept ar s.off (take k input)) ar) (W ++ take (count_of (with_count said k)) input) x.frames
-      go Done e =
+      go (Ok done) e =
           of_buf 0 x (send.wrote s n fin) (kept ar s.off (take k input)) (W ++ take k input) x.frames (record {
             carries = wrote_carries W s ar input fin i.carries e;
             honest = all_map (Honest W s.fin) (Honest (W ++ take k input) (send.wrote s n fin).fin) x.frames (λ f h. honest_more W (take k input) s.fin (send.wrote s n fin).fin f (wrote_fin W s ar input fin i.carries e) h) i.honest;
@@ -292,13 +289,11 @@ module _ (x : SendEnd) (i : SendInv x) where
             fin_stays = wrote_fin W s ar input fin i.carries e;
             limit = omega arith;
           })
-      go (Refused why) e = subst (λ (X : List ℕ). Goes 0 x (view_of (buf_of s)) ar X x.frames) (sym (append-nil W)) (same 0)
+      go (Err why) e = subst (λ (X : List ℕ). Goes 0 x (view_of (buf_of s)) ar X x.frames) (sym (append-nil W)) (same 0)
 
   emits_is : (out : List ℕ) → let k = send.emit_count (sender x) (length out) in
-      emits x out ≡ record {
+      emits x out ≡ record x {
         buf = buf_of (send.sent (sender x) (length out));
-        arena = x.arena;
-        written = x.written;
         frames = x.frames ++ frame (sender x) x.arena k ∷ [];
       }
   unfolding emits send.emitted
@@ -308,12 +303,10 @@ module _ (x : SendEnd) (i : SendInv x) where
       let mark : Bool = words.is_at s.fin (send.front s + k) in
       let a : send.other_arena s (length x.arena) ≡ false = arena_fits x.written s x.arena i.carries in
       ap (λ (t : Bool).
-      let e : EmitOutcome = cond t (record { answer = NoBytes BadSetup; buf = buf_of s }) (record { answer = Emitted k mark; buf = buf_of (send.sent s (length out)) }) in
-      record { buf = e.buf; arena = x.arena; written = x.written; frames = x.frames ++ frame_of (send.front s) (send.emitted_out s x.arena out) e.answer }) a
-      ∙ ap (λ (bs : List ℕ). record {
+      let e : Outcome (ℕ × Bool) SendBuf = cond t (record { answer = Err BadSetup; state = buf_of s }) (record { answer = Ok (k, mark); state = buf_of (send.sent s (length out)) }) in
+      record x { buf = e.state; frames = x.frames ++ frame_of (send.front s) (send.emitted_out s x.arena out) e.answer }) a
+      ∙ ap (λ (bs : List ℕ). record x {
         buf = buf_of (send.sent s (length out));
-        arena = x.arena;
-        written = x.written;
         frames = x.frames ++ record { from = send.front s; bytes = bs; fin = mark } ∷ [];
       }) (emit_gives s x.arena out a)
 
@@ -333,11 +326,11 @@ module _ (x : SendEnd) (i : SendInv x) where
   pub raises_step : (limit : ℕ) → SendStep limit x (raises x limit)
   unfolding raises send.raised
   raises_step limit =
-      cond_elim (λ (o : Outcome). Goes limit x (view_of o.buf) x.arena x.written x.frames) (ltb M limit)
+      cond_elim (λ (o : Outcome ⊤ SendBuf). Goes limit x (view_of o.state) x.arena x.written x.frames) (ltb M limit)
       (λ _. same limit)
       (λ e. still limit _ (raised_carries x.written (sender x) x.arena i.carries limit (ltb-false M limit e)) refl (omega arith))
 
-  pub blocks_step : (at : OptionU64) → SendStep 0 x (blocks x at)
+  pub blocks_step : (at : Option ℕ) → SendStep 0 x (blocks x at)
   unfolding blocks send.blocked_with
   blocks_step at = still 0 _ (blocked_carries x.written (sender x) x.arena i.carries at) refl (omega arith)
 

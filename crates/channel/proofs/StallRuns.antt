@@ -10,20 +10,18 @@
 --   long_frames_stall    a least frame length does not help: frames of 10 bytes and more, A = 83
 --   short_writes_stall   nor do frames as long as the writes allow: 36 frames of 10 bytes, then 29 writes of one byte, each sent at once
 --   held_back_ends       the rule can be kept: writes of 1, 2 and 2 bytes, frames that end at 2, 4 and at the final size 5
+use Rattle.std.specs.Prelude.{slice_get, Some, Ok, Err}
 use mathlib.Core.Path.{◌≡◌, refl, sym, ap, ◌∙◌}
 use mathlib.Core.Logic.{inl, inr}
 use mathlib.Core.Bool.{Bool, true, false, not, ◌&&◌, ◌||◌}
-use mathlib.Core.Option.{some}
 use mathlib.Core.List.{List, [], ◌∷◌, ◌++◌}
 use Prim.Native.Nat.{ℕ, zero, suc, ◌+◌, ◌*◌, ◌/◌, ◌%◌, ◌≤◌, ◌<◌}
 use native.Mathlib.Nat.{div-add-mod', mul_comm}
 use native.Mathlib.Omega.{arith}
 use lib.Dec.{ltb, leb, eqb}
-use lib.ListN.{length, replicate, get_elem?, length-replicate}
+use lib.ListN.{length, replicate, length-replicate}
 use borrow.Author.Tests.{ltb-true, leb-true, eqb-true}
 use Rattle.refusal.specs.Rules.{M, after}
-use Rattle.refusal.specs.declared.Answer.TheVariants.{Done, Refused}
-use Rattle.refusal.specs.declared.EmitAnswer.TheVariants.{Refused as NoBytes}
 use Rattle.refusal.specs.declared.Refusal.TheVariants.{TableFull, Done as NothingReady}
 use Rattle.arena.specs.Rules.{kept, held}
 use Rattle.range_buf.specs.declared.RangeBuf.{RangeBuf}
@@ -118,10 +116,10 @@ abbrev stall : System
 stall = run (fresh (ends 65 65 65)) (write (replicate 65 7) false ∷ emissions 65 1 ++ deliveries 64 1 ++ lose 0 ∷ emit (0 ∷ []) ∷ deliver 65 ∷ [])
 
 stall_real : (length (receiver stall.rcv).chunks ≡ 64)
-    × (get_elem? stall.snd.frames 65 ≡ some (sevens 0 1))
-    × (on_delivery stall.rcv (sevens 0 1) ≡ Refused TableFull)
-    × (on_delivery stall.rcv (sevens 0 65) ≡ Refused TableFull)
-    × (on_read stall.rcv (0 ∷ []) ≡ NoBytes NothingReady)
+    × (slice_get stall.snd.frames 65 ≡ Some (sevens 0 1))
+    × (on_delivery stall.rcv (sevens 0 1) ≡ Err TableFull)
+    × (on_delivery stall.rcv (sevens 0 65) ≡ Err TableFull)
+    × (on_read stall.rcv (0 ∷ []) ≡ Err NothingReady)
 unfolding fresh writes emits loses takes reads send.created send.written send.write_judged send.wrote send.written_arena send.emitted send.emitted_out send.sent send.retransmits send.loss_judged send.lost send_buf_of kept held recv.created recv.written recv.write_judged recv.wrote recv.written_arena recv.emitted recv.emitted_out recv.discarded recv.take_judged recv.took_out buf_of
 stall_real = (refl, refl, refl, refl, refl)
 
@@ -142,9 +140,9 @@ apart (suc n) s r = apart n (2 + s) (after (recv.write_judged r 65 s 1 false) (r
 abbrev runs : Recv
 runs = apart 32 2 (recv.new_recv 65 65 65)
 
-fewest_frames : (recv.write_judged runs 65 1 64 false ≡ Done)
-    × (recv.write_judged (recv.wrote runs 1 64 false) 65 0 1 false ≡ Refused TableFull)
-    × (recv.take_judged (recv.wrote runs 1 64 false) 1 ≡ Refused NothingReady)
+fewest_frames : (recv.write_judged runs 65 1 64 false ≡ Ok tt)
+    × (recv.write_judged (recv.wrote runs 1 64 false) 65 0 1 false ≡ Err TableFull)
+    × (recv.take_judged (recv.wrote runs 1 64 false) 1 ≡ Err NothingReady)
 unfolding recv.write_judged recv.wrote recv.take_judged
 fewest_frames = (refl, refl, refl)
 
@@ -161,8 +159,8 @@ abbrev sharp63 : System
 sharp63 = run (fresh (ends 130 130 127)) (even ++ deliver 0 ∷ read (0 ∷ []) ∷ deliveries 63 1)
 
 full_at_63_l : Premises (ends 130 130 127) × ((ends 130 130 127).recv_room ≡ 63 * 2 + 1) × All (Ended (OnGrid 2 130) 130) sharp63.snd.frames
-    × (get_elem? sharp63.snd.frames 65 ≡ some mark)
-    × (on_delivery sharp63.rcv mark ≡ Refused TableFull)
+    × (slice_get sharp63.snd.frames 65 ≡ Some mark)
+    × (on_delivery sharp63.rcv mark ≡ Err TableFull)
 unfolding fresh writes emits loses takes reads send.created send.written send.write_judged send.wrote send.written_arena send.emitted send.emitted_out send.sent send.retransmits send.loss_judged send.lost send_buf_of kept held recv.created recv.written recv.write_judged recv.wrote recv.written_arena recv.emitted recv.emitted_out recv.discarded recv.take_judged recv.took_out buf_of
 full_at_63_l = (
   premises 130 130 127 (omega arith) (omega arith) (omega arith) (omega arith) (omega arith),
@@ -177,11 +175,11 @@ abbrev sharp64 : System
 sharp64 = run (fresh (ends 130 130 128)) (even ++ deliveries 63 1 ++ deliver 65 ∷ [])
 
 stall_at_64_l : Premises (ends 130 130 128) × ((ends 130 130 128).recv_room ≡ 64 * 2) × All (Ended (OnGrid 2 130) 130) sharp64.snd.frames
-    × (get_elem? sharp64.snd.frames 0 ≡ some (sevens 0 2))
+    × (slice_get sharp64.snd.frames 0 ≡ Some (sevens 0 2))
     × ((receiver sharp64.rcv).off ≡ 0)
     × (recv.is_ready (receiver sharp64.rcv).chunks 0 ≡ false)
-    × (on_delivery sharp64.rcv (sevens 0 2) ≡ Refused TableFull)
-    × (on_read sharp64.rcv (0 ∷ []) ≡ NoBytes NothingReady)
+    × (on_delivery sharp64.rcv (sevens 0 2) ≡ Err TableFull)
+    × (on_read sharp64.rcv (0 ∷ []) ≡ Err NothingReady)
 unfolding fresh writes emits loses takes reads send.created send.written send.write_judged send.wrote send.written_arena send.emitted send.emitted_out send.sent send.retransmits send.loss_judged send.lost send_buf_of kept held recv.created recv.written recv.write_judged recv.wrote recv.written_arena recv.emitted recv.emitted_out recv.discarded recv.take_judged recv.took_out buf_of
 stall_at_64_l = (
   premises 130 130 128 (omega arith) (omega arith) (omega arith) (omega arith) (omega arith),
@@ -220,9 +218,9 @@ least n (f ∷ fs) = leb n (length f.bytes) && least n fs
 
 long_frames_stall : (least 10 long.snd.frames ≡ true)
     × (length (receiver long.rcv).chunks ≡ 64)
-    × (get_elem? long.snd.frames 0 ≡ some (sevens 0 10))
-    × (on_delivery long.rcv (sevens 0 10) ≡ Refused TableFull)
-    × (on_read long.rcv (0 ∷ []) ≡ NoBytes NothingReady)
+    × (slice_get long.snd.frames 0 ≡ Some (sevens 0 10))
+    × (on_delivery long.rcv (sevens 0 10) ≡ Err TableFull)
+    × (on_read long.rcv (0 ∷ []) ≡ Err NothingReady)
 unfolding fresh writes emits loses takes reads send.created send.written send.write_judged send.wrote send.written_arena send.emitted send.emitted_out send.sent send.retransmits send.loss_judged send.lost send_buf_of kept held recv.created recv.written recv.write_judged recv.wrote recv.written_arena recv.emitted recv.emitted_out recv.discarded recv.take_judged recv.took_out buf_of
 long_frames_stall = (refl, refl, refl, refl, refl)
 
@@ -235,9 +233,9 @@ abbrev short : System
 short = run (fresh (ends 389 389 389)) (write (replicate 360 7) false ∷ emissions 36 10 ++ chatty 29 ++ deliveries 64 1)
 
 short_writes_stall : (length (receiver short.rcv).chunks ≡ 64)
-    × (get_elem? short.snd.frames 0 ≡ some (sevens 0 10))
-    × (on_delivery short.rcv (sevens 0 10) ≡ Refused TableFull)
-    × (on_read short.rcv (0 ∷ []) ≡ NoBytes NothingReady)
+    × (slice_get short.snd.frames 0 ≡ Some (sevens 0 10))
+    × (on_delivery short.rcv (sevens 0 10) ≡ Err TableFull)
+    × (on_read short.rcv (0 ∷ []) ≡ Err NothingReady)
 unfolding fresh writes emits loses takes reads send.created send.written send.write_judged send.wrote send.written_arena send.emitted send.emitted_out send.sent send.retransmits send.loss_judged send.lost send_buf_of kept held recv.created recv.written recv.write_judged recv.wrote recv.written_arena recv.emitted recv.emitted_out recv.discarded recv.take_judged recv.took_out buf_of
 short_writes_stall = (refl, refl, refl, refl)
 

@@ -5,6 +5,7 @@
 --   not_full                    A ≤ 63 L: no fair frame is refused TableFull
 --   not_stalled, fits_at_off    A < 64 L: with nothing ready, no fair frame that brings the byte at off is; nor NoRoom, if it has at most A bytes
 --   Stalled                     (no condition) 64 chunks, none at off: so it stays, whatever is written or read        stalled_write, stalled_emit
+use Rattle.std.specs.Prelude.{Result, Ok, Err, ⊤}
 use mathlib.Core.Path.{◌≡◌, refl, sym, ap, subst, ◌∙◌}
 use mathlib.Core.Logic.{◌⊎◌, inl, inr}
 use mathlib.Core.Bool.{Bool, true, false, cond, not, ◌&&◌, false≢true}
@@ -18,8 +19,6 @@ use Rattle.tables.proofs.Tables.{cases, cond_elim}
 use Rattle.refusal.specs.Rules.{M, number_of, known}
 use Rattle.refusal.specs.declared.Refusal.{Refusal}
 use Rattle.refusal.specs.declared.Refusal.TheVariants.{Offset, FinalSize, FlowControl as OverLimit, NoRoom, TableFull, Done as NothingReady, BadSetup}
-use Rattle.refusal.specs.declared.Answer.{Answer}
-use Rattle.refusal.specs.declared.Answer.TheVariants.{Done, Refused}
 use Rattle.range_buf.specs.declared.RangeBuf.{RangeBuf}
 use Rattle.range_buf.specs.Rules.{start, end}
 use Rattle.recv_buf.specs.State.{Recv, Held, GoodRecv}
@@ -109,20 +108,20 @@ module _ (Cut : ℕ → Type 0) (L top : ℕ) (grid : Grid Cut L top) (r : Recv)
 -- ---- in terms of the answers
 
 -- what a refusal tells: the tests of others before it failed, and its own holds
-refused_later : (t : Bool) (why other : Refusal) (rest : Answer) → (number_of why ≡ number_of other → ⊥) → cond t (Refused why) rest ≡ Refused other
-    → (t ≡ false) × (rest ≡ Refused other)
+refused_later : (t : Bool) (why other : Refusal) (rest : Result ⊤ Refusal) → (number_of why ≡ number_of other → ⊥) → cond t (Err why) rest ≡ Err other
+    → (t ≡ false) × (rest ≡ Err other)
 refused_later true why other rest ne e = let w : why ≡ other = cc in absurd (ne (ap number_of w))
 refused_later false why other rest ne e = (refl, e)
 
-refused_here : (t u : Bool) (why other : Refusal) → (number_of other ≡ number_of why → ⊥) → cond t (Refused why) (cond u (Refused other) Done) ≡ Refused why → t ≡ true
+refused_here : (t u : Bool) (why other : Refusal) → (number_of other ≡ number_of why → ⊥) → ◌≡◌ {A = Result ⊤ Refusal} (cond t (Err why) (cond u (Err other) (Ok tt))) (Err why) → t ≡ true
 refused_here true u why other ne e = refl
 refused_here false true why other ne e = let w : other ≡ why = cc in absurd (ne (ap number_of w))
 refused_here false false why other ne e = let z : ◌≡◌ {A = ℕ} 0 1 = cc in absurd (omega arith)
 
 module _ (r : Recv) (a s n : ℕ) (fin : Bool) where
   -- a frame is answered NoRoom or TableFull, 5 or 6, only if it passed the tests before
-  late : (why : Refusal) → 4 < number_of why → number_of why < 7 → write_judged r a s n fin ≡ Refused why
-      → (passes_final r.fin r.len (s + n) fin ≡ false) × (cond (no_room r s n) (Refused NoRoom) (cond (no_entry r s n fin) (Refused TableFull) Done) ≡ Refused why)
+  late : (why : Refusal) → 4 < number_of why → number_of why < 7 → write_judged r a s n fin ≡ Err why
+      → (passes_final r.fin r.len (s + n) fin ≡ false) × ◌≡◌ {A = Result ⊤ Refusal} (cond (no_room r s n) (Err NoRoom) (cond (no_entry r s n fin) (Err TableFull) (Ok tt))) (Err why)
   unfolding write_judged
   late why l h e =
       let e₁ = refused_later (other_arena r a) BadSetup why _ (λ p. omega arith) e in
@@ -130,18 +129,18 @@ module _ (r : Recv) (a s n : ℕ) (fin : Bool) where
       let e₃ = refused_later (ltb r.flow.max_data (s + n)) OverLimit why _ (λ p. omega arith) e₂.1 in
       refused_later (passes_final r.fin r.len (s + n) fin) FinalSize why _ (λ p. omega arith) e₃.1
 
-  answered_full : write_judged r a s n fin ≡ Refused TableFull
+  answered_full : write_judged r a s n fin ≡ Err TableFull
       → (passes_final r.fin r.len (s + n) fin ≡ false) × (no_room r s n ≡ false) × (no_entry r s n fin ≡ true)
   answered_full e =
       let p = late TableFull (omega arith) (omega arith) e in
       let q = refused_later (no_room r s n) NoRoom TableFull _ (λ p. omega arith) p.1 in
       (p.0, q.0, refused_here (no_entry r s n fin) false TableFull NoRoom (λ p. omega arith) q.1)
 
-  answered_room : write_judged r a s n fin ≡ Refused NoRoom → no_room r s n ≡ true
+  answered_room : write_judged r a s n fin ≡ Err NoRoom → no_room r s n ≡ true
   answered_room e = refused_here (no_room r s n) (no_entry r s n fin) NoRoom TableFull (λ p. omega arith) (late NoRoom (omega arith) (omega arith) e).1
 
   -- a frame at or below off that is no longer than A always fits the arena
-  pub fits_at_off : s ≤ r.off → n ≤ r.room → write_judged r a s n fin ≡ Refused NoRoom → ⊥
+  pub fits_at_off : s ≤ r.off → n ≤ r.room → write_judged r a s n fin ≡ Err NoRoom → ⊥
   fits_at_off h k e =
       let p = and_true (not r.drain) (ltb 0 n && ltb r.room (s + n - r.off)) (answered_room e) in
       let q = and_true (ltb 0 n) (ltb r.room (s + n - r.off)) p.1 in
@@ -149,13 +148,13 @@ module _ (r : Recv) (a s n : ℕ) (fin : Bool) where
 
   module _ (Cut : ℕ → Type 0) (L top : ℕ) (grid : Grid Cut L top) (g : GoodRecv r) (t : Tidy Cut top r) (f : Fair Cut top r s n fin) where
     -- THE CONDITION: frames whose edges are cuts at least L apart, and A at most 63 L: no frame is ever answered TableFull
-    pub not_full : r.room ≤ 63 * L → write_judged r a s n fin ≡ Refused TableFull → ⊥
+    pub not_full : r.room ≤ 63 * L → write_judged r a s n fin ≡ Err TableFull → ⊥
     not_full room e =
         let p = answered_full e in
         false≢true (sym (never_full Cut L top grid r s n fin g t f room p.0 p.1) ∙ p.2)
 
     -- A below 64 L: with nothing ready, the frame that brings the byte at off is not
-    pub not_stalled : r.room < 64 * L → is_ready r.chunks r.off ≡ false → s ≤ r.off → r.off < s + n → write_judged r a s n fin ≡ Refused TableFull → ⊥
+    pub not_stalled : r.room < 64 * L → is_ready r.chunks r.off ≡ false → s ≤ r.off → r.off < s + n → write_judged r a s n fin ≡ Err TableFull → ⊥
     not_stalled room idle lo hi e =
         let p = answered_full e in
         false≢true (sym (unblocks Cut L top grid r s n fin g t f room idle lo hi p.0 p.1) ∙ p.2)
@@ -193,7 +192,7 @@ pub record Stalled (r : Recv) : Type 0 where
   pub unshut : r.drain ≡ false
 
 -- it stays so for ever: no accepted frame changes the chunks or off
-pub stalled_write : (r : Recv) (a s n : ℕ) (fin : Bool) → Stalled r → write_judged r a s n fin ≡ Done
+pub stalled_write : (r : Recv) (a s n : ℕ) (fin : Bool) → Stalled r → write_judged r a s n fin ≡ Ok tt
     → ((wrote r s n fin).chunks ≡ r.chunks) × ((wrote r s n fin).off ≡ r.off) × Stalled (wrote r s n fin)
 stalled_write r a s n fin g said =
     wrote_elim r s n fin (λ (y : Recv). (y.chunks ≡ r.chunks) × (y.off ≡ r.off) × Stalled y) g.unshut (λ _. (refl, refl, g)) (
@@ -221,6 +220,6 @@ stalled_write r a s n fin g said =
     same = either grown (λ d. d) (λ d. absurd (omega (arith, fits_table r s n fin g.unshut ok.entry, g.full)))
 
 -- and nothing can be handed out: an emit or a discard of any room answers Done, and leaves the state
-pub stalled_emit : (r : Recv) (n : ℕ) → Stalled r → (take_judged r n ≡ Refused NothingReady) × (refused_take r ≡ r)
+pub stalled_emit : (r : Recv) (n : ℕ) → Stalled r → (take_judged r n ≡ Err NothingReady) × (refused_take r ≡ r)
 unfolding take_judged
 stalled_emit r n g = (rw g.idle, rw g.idle)

@@ -3,15 +3,9 @@
 --
 -- The system is that of `System`: its moves do what the contracts of the two buffers say. ms is any list of moves, so any order of calls, any
 -- loss, repetition and reordering of frames.
-use Rattle.std.specs.Prelude.{◌≡◌, ◌⊎◌, Bool, true, List, [], ◌∷◌, ◌++◌, ℕ, ◌+◌, ◌≤◌, ◌<◌, length}
-use Rattle.std.proofs.Math.Option.{some}
-use Rattle.std.proofs.Math.ListN.{get_elem?}
-use Rattle.refusal.specs.declared.Answer.{Answer}
-use Rattle.refusal.specs.declared.Answer.TheVariants.{Done, Refused}
-use Rattle.refusal.specs.declared.EmitAnswer.{EmitAnswer}
-use Rattle.refusal.specs.declared.EmitAnswer.TheVariants.{Emitted, Refused as NoBytes}
+use Rattle.std.specs.Prelude.{◌≡◌, ◌⊎◌, Bool, true, List, [], ◌∷◌, ◌++◌, ℕ, ◌+◌, ◌≤◌, ◌<◌, length, slice_get, Some, Result, Ok, Err, ⊤}
+use Rattle.refusal.specs.declared.Refusal.{Refusal}
 use Rattle.refusal.specs.declared.Refusal.TheVariants.{NoRoom, TableFull, Done as NothingReady}
-use Rattle.refusal.specs.declared.OptionU64.TheVariants.{Some}
 use Rattle.range_buf.specs.declared.RangeBuf.{RangeBuf}
 use Rattle.range_buf.specs.Rules.{avail}
 use Rattle.send_buf.specs.State.{Good as GoodSendBuf}
@@ -21,10 +15,10 @@ use Rattle.recv_buf.specs.Rfc9000.{Frame, Brings}
 use Rattle.channel.specs.System.{RecvEnd, System, sender, receiver, Setup, fresh, Premises, Move, read, run}
 
 -- what the receiver answers if frame f is delivered now, and if a reader now reads into this output
-abbrev pub on_delivery : RecvEnd → Frame → Answer
+abbrev pub on_delivery : RecvEnd → Frame → Result ⊤ Refusal
 on_delivery x f = (recv.written (receiver x) (length x.arena) f.from (length f.bytes) f.fin).answer
 
-abbrev pub on_read : RecvEnd → List ℕ → EmitAnswer
+abbrev pub on_read : RecvEnd → List ℕ → Result (ℕ × Bool) Refusal
 on_read x out = (recv.emitted (receiver x) (length x.arena) (length out)).answer
 
 -- ---- every call may be made: whatever the numbers at creation, both buffers are at every moment what their contracts require
@@ -40,10 +34,10 @@ pub record Safe (y : System) : Type 0 where
   pub prefix : y.rcv.out ++ rest ≡ y.snd.written
   -- every frame ever emitted, delivered now, is accepted, or refused for want of room or of a table entry: it is never BadSetup, nor one of
   -- the errors Offset, FlowControl and FinalSize
-  pub welcome : (k : ℕ) (f : Frame) → get_elem? y.snd.frames k ≡ some f
-      → (on_delivery y.rcv f ≡ Done) ⊎ ((on_delivery y.rcv f ≡ Refused NoRoom) ⊎ (on_delivery y.rcv f ≡ Refused TableFull))
+  pub welcome : (k : ℕ) (f : Frame) → slice_get y.snd.frames k ≡ Some f
+      → (on_delivery y.rcv f ≡ Ok tt) ⊎ ((on_delivery y.rcv f ≡ Err NoRoom) ⊎ (on_delivery y.rcv f ≡ Err TableFull))
   -- a read is answered with a count and a mark, or with Done, and with no other refusal
-  pub readable : (out : List ℕ) → (on_read y.rcv out ≡ NoBytes NothingReady) ⊎ ((count : ℕ) × (ended : Bool) × (on_read y.rcv out ≡ Emitted count ended))
+  pub readable : (out : List ℕ) → (on_read y.rcv out ≡ Err NothingReady) ⊎ ((count : ℕ) × (ended : Bool) × (on_read y.rcv out ≡ Ok (count, ended)))
   -- a final size that the receiver knows is the sender's, and the number of bytes accepted for writing
   pub final : (size : ℕ) → (receiver y.rcv).fin ≡ Some size → ((sender y.snd).fin ≡ Some size) × (size ≡ length y.snd.written)
 
@@ -66,7 +60,7 @@ pub record Finished (y : System) : Type 0 where
 -- the reader has it all: every read answers Done; the bytes handed out, earlier ones included, are exactly those written; both ends hold the
 -- same final size, and it is their number
 pub record Whole (y : System) : Type 0 where
-  pub done : (out : List ℕ) → on_read y.rcv out ≡ NoBytes NothingReady
+  pub done : (out : List ℕ) → on_read y.rcv out ≡ Err NothingReady
   pub all_out : y.rcv.out ≡ y.snd.written
   pub sent_size : (sender y.snd).fin ≡ Some (length y.snd.written)
   pub got_size : (receiver y.rcv).fin ≡ Some (length y.snd.written)
@@ -74,7 +68,7 @@ pub record Whole (y : System) : Type 0 where
 -- whenever a read answers Done, all is there, whatever else goes on meanwhile
 abbrev pub AtDone : Type 0
 AtDone = (u : Setup) → Premises u → (ms : List Move) → Finished (run (fresh u) ms)
-    → (out : List ℕ) → on_read (run (fresh u) ms).rcv out ≡ NoBytes NothingReady → Whole (run (fresh u) ms)
+    → (out : List ℕ) → on_read (run (fresh u) ms).rcv out ≡ Err NothingReady → Whole (run (fresh u) ms)
 
 -- draining: reads one after another, each with room for at least one byte
 abbrev pub drain : List (List ℕ) → List Move

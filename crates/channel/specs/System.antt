@@ -13,17 +13,9 @@
 -- receiver's window out, has it changed in place and hands it back makes the moves `commit` and `tune` (proofs/Lent.antt).
 --
 -- A frame is a STREAM frame of RFC 9000: offset, bytes, end mark. The k-th is counted from 0.
-use Rattle.std.specs.Prelude.{◌≡◌, Bool, List, [], ◌∷◌, ◌++◌, ℕ, ◌≤◌, ◌<◌, length, take}
-use Rattle.std.proofs.Math.Option.{Option, none, some}
-use Rattle.std.proofs.Math.ListN.{get_elem?}
+use Rattle.std.specs.Prelude.{◌≡◌, Bool, List, [], ◌∷◌, ◌++◌, ℕ, ◌≤◌, ◌<◌, length, take, slice_get, Option, None, Some, Result, Ok, Err, ⊤}
 use Rattle.refusal.specs.Rules.{M}
-use Rattle.refusal.specs.declared.Answer.{Answer}
-use Rattle.refusal.specs.declared.Answer.TheVariants.{Done, Refused}
-use Rattle.refusal.specs.declared.CountAnswer.{CountAnswer}
-use Rattle.refusal.specs.declared.CountAnswer.TheVariants.{Count, Refused as NoCount}
-use Rattle.refusal.specs.declared.EmitAnswer.{EmitAnswer}
-use Rattle.refusal.specs.declared.EmitAnswer.TheVariants.{Emitted, Refused as NoBytes}
-use Rattle.refusal.specs.declared.OptionU64.{OptionU64}
+use Rattle.refusal.specs.declared.Refusal.{Refusal}
 use Rattle.send_buf.specs.declared.SendBuf.{SendBuf}
 use Rattle.send_buf.specs.State.{Send, view_of as send_view}
 use Rattle.send_buf.specs.Rules as send
@@ -75,9 +67,9 @@ pub record Setup : Type 0 where
 
 unfoldable pub fresh : Setup → System
 fresh u = record {
-  snd = record { buf = (send.created u.send_limit u.send_room).buf; arena = u.send_arena; written = []; frames = [] };
+  snd = record { buf = (send.created u.send_limit u.send_room).state; arena = u.send_arena; written = []; frames = [] };
   rcv = record {
-    buf = (recv.created u.recv_limit u.max_window u.recv_room).buf;
+    buf = (recv.created u.recv_limit u.max_window u.recv_room).state;
     arena = u.recv_arena;
     out = [];
     accepted = [];
@@ -108,133 +100,121 @@ pub data Move : Type 0 where
   commit : (now : ℕ) → Move  -- the receiver commits its next limit, at this time
   tune : (now rtt : ℕ) → Move  -- the receiver autotunes its window, at this time
   raise : (k : ℕ) → Move  -- the sender's limit is raised to the k-th limit granted
-  block : (at : OptionU64) → Move  -- the sender records where it is blocked, or that it is not
+  block : (at : Option ℕ) → Move  -- the sender records where it is blocked, or that it is not
   ack : (k : ℕ) → Move  -- the k-th frame accepted is acked
   ack_drop : (k : ℕ) → Move  -- the same, and what is acked so far is dropped
   lose : (k : ℕ) → Move  -- the k-th frame ever emitted is reported lost
 
 -- how many bytes an answer says were accepted, or handed out
-abbrev pub count_of : CountAnswer → ℕ
-count_of (Count n) = n
-count_of (NoCount why) = 0
+abbrev pub count_of : Result ℕ Refusal → ℕ
+count_of (Ok n) = n
+count_of (Err why) = 0
 
-abbrev pub bytes_of : EmitAnswer → ℕ
-bytes_of (Emitted n fin) = n
-bytes_of (NoBytes why) = 0
+abbrev pub bytes_of : Result (ℕ × Bool) Refusal → ℕ
+bytes_of (Ok (n, fin)) = n
+bytes_of (Err why) = 0
 
 -- ---- what a move does to the sender's end
 
 abbrev pub with_send : SendEnd → SendBuf → SendEnd
-with_send x b = record { buf = b; arena = x.arena; written = x.written; frames = x.frames }
+with_send x b = record x { buf = b }
 
 -- as many bytes as the answer says were accepted for writing
 unfoldable pub writes : SendEnd → List ℕ → Bool → SendEnd
 writes x input fin =
-    let w = send.written (sender x) (length x.arena) (length input) fin in record {
-      buf = w.buf;
+    let w = send.written (sender x) (length x.arena) (length input) fin in record x {
+      buf = w.state;
       arena = send.written_arena (sender x) x.arena input fin;
       written = x.written ++ take (count_of w.answer) input;
-      frames = x.frames;
     }
 
 -- a frame is what emit gave, at the front offset before the call
-abbrev pub frame_of : ℕ → List ℕ → EmitAnswer → List Frame
-frame_of front out (Emitted n fin) = record { from = front; bytes = take n out; fin = fin } ∷ []
-frame_of front out (NoBytes why) = []
+abbrev pub frame_of : ℕ → List ℕ → Result (ℕ × Bool) Refusal → List Frame
+frame_of front out (Ok (n, fin)) = record { from = front; bytes = take n out; fin = fin } ∷ []
+frame_of front out (Err why) = []
 
 unfoldable pub emits : SendEnd → List ℕ → SendEnd
 emits x out =
-    let e = send.emitted (sender x) (length x.arena) (length out) in record {
-      buf = e.buf;
-      arena = x.arena;
-      written = x.written;
+    let e = send.emitted (sender x) (length x.arena) (length out) in record x {
+      buf = e.state;
       frames = x.frames ++ frame_of (send.front (sender x)) (send.emitted_out (sender x) x.arena out) e.answer;
     }
 
 unfoldable pub raises : SendEnd → ℕ → SendEnd
-raises x limit = with_send x (send.raised (sender x) limit).buf
+raises x limit = with_send x (send.raised (sender x) limit).state
 
 -- any offset, or none: it need not be the limit
-unfoldable pub blocks : SendEnd → OptionU64 → SendEnd
+unfoldable pub blocks : SendEnd → Option ℕ → SendEnd
 blocks x at = with_send x (send.blocked_with (sender x) at)
 
 unfoldable pub acks : SendEnd → Frame → SendEnd
-acks x f = with_send x (send.acks (sender x) f.from (length f.bytes)).buf
+acks x f = with_send x (send.acks (sender x) f.from (length f.bytes)).state
 
 unfoldable pub ack_drops : SendEnd → Frame → SendEnd
-ack_drops x f = with_send x (send.ack_drops (sender x) f.from (length f.bytes)).buf
+ack_drops x f = with_send x (send.ack_drops (sender x) f.from (length f.bytes)).state
 
 unfoldable pub loses : SendEnd → Frame → SendEnd
-loses x f = with_send x (send.retransmits (sender x) f.from (length f.bytes)).buf
+loses x f = with_send x (send.retransmits (sender x) f.from (length f.bytes)).state
 
 -- ---- what a move does to the receiver's end
 
 -- a refused frame counts as lost
-abbrev pub accepted_by : Answer → Frame → List Frame
-accepted_by Done f = f ∷ []
-accepted_by (Refused why) f = []
+abbrev pub accepted_by : Result ⊤ Refusal → Frame → List Frame
+accepted_by (Ok done) f = f ∷ []
+accepted_by (Err why) f = []
 
 unfoldable pub takes : RecvEnd → Frame → RecvEnd
 takes x f =
-    let w = recv.written (receiver x) (length x.arena) f.from (length f.bytes) f.fin in record {
-      buf = w.buf;
+    let w = recv.written (receiver x) (length x.arena) f.from (length f.bytes) f.fin in record x {
+      buf = w.state;
       arena = recv.written_arena (receiver x) x.arena f.from f.bytes f.fin;
-      out = x.out;
       accepted = x.accepted ++ accepted_by w.answer f;
-      granted = x.granted;
     }
 
 -- of the output, as many bytes were handed out as the answer says
 unfoldable pub reads : RecvEnd → List ℕ → RecvEnd
 reads x out =
-    let e = recv.emitted (receiver x) (length x.arena) (length out) in record {
-      buf = e.buf;
-      arena = x.arena;
+    let e = recv.emitted (receiver x) (length x.arena) (length out) in record x {
+      buf = e.state;
       out = x.out ++ take (bytes_of e.answer) (recv.emitted_out (receiver x) x.arena out);
-      accepted = x.accepted;
-      granted = x.granted;
     }
 
 -- the limit then in force is granted
 unfoldable pub commits : RecvEnd → ℕ → RecvEnd
 commits x now =
-    let b = recv.commits (receiver x) now in record {
+    let b = recv.commits (receiver x) now in record x {
       buf = b;
-      arena = x.arena;
-      out = x.out;
-      accepted = x.accepted;
       granted = x.granted ++ b.flow_control.max_data ∷ [];
     }
 
 unfoldable pub tunes : RecvEnd → ℕ → ℕ → RecvEnd
-tunes x now rtt =
-    record { buf = recv.autotunes (receiver x) now rtt; arena = x.arena; out = x.out; accepted = x.accepted; granted = x.granted }
+tunes x now rtt = record x { buf = recv.autotunes (receiver x) now rtt }
 
 -- ---- one move, and a schedule
 
 abbrev pub on_send : System → SendEnd → System
-on_send y x = record { snd = x; rcv = y.rcv }
+on_send y x = record y { snd = x }
 
 abbrev pub on_recv : System → RecvEnd → System
-on_recv y x = record { snd = y.snd; rcv = x }
+on_recv y x = record y { rcv = x }
 
 -- a move that names a frame or a limit that is not there does nothing
 abbrev pub named : {A : Type 0} → Option A → (A → System) → System → System
-named none f y = y
-named (some a) f y = f a
+named None f y = y
+named (Some a) f y = f a
 
 abbrev pub step : System → Move → System
 step y (write input fin) = on_send y (writes y.snd input fin)
 step y (emit out) = on_send y (emits y.snd out)
-step y (deliver k) = named (get_elem? y.snd.frames k) (λ f. on_recv y (takes y.rcv f)) y
+step y (deliver k) = named (slice_get y.snd.frames k) (λ f. on_recv y (takes y.rcv f)) y
 step y (read out) = on_recv y (reads y.rcv out)
 step y (commit now) = on_recv y (commits y.rcv now)
 step y (tune now rtt) = on_recv y (tunes y.rcv now rtt)
-step y (raise k) = named (get_elem? y.rcv.granted k) (λ limit. on_send y (raises y.snd limit)) y
+step y (raise k) = named (slice_get y.rcv.granted k) (λ limit. on_send y (raises y.snd limit)) y
 step y (block at) = on_send y (blocks y.snd at)
-step y (ack k) = named (get_elem? y.rcv.accepted k) (λ f. on_send y (acks y.snd f)) y
-step y (ack_drop k) = named (get_elem? y.rcv.accepted k) (λ f. on_send y (ack_drops y.snd f)) y
-step y (lose k) = named (get_elem? y.snd.frames k) (λ f. on_send y (loses y.snd f)) y
+step y (ack k) = named (slice_get y.rcv.accepted k) (λ f. on_send y (acks y.snd f)) y
+step y (ack_drop k) = named (slice_get y.rcv.accepted k) (λ f. on_send y (ack_drops y.snd f)) y
+step y (lose k) = named (slice_get y.snd.frames k) (λ f. on_send y (loses y.snd f)) y
 
 abbrev pub run : System → List Move → System
 run y [] = y

@@ -1,4 +1,5 @@
 -- Every window that came from creation or a call is good, whatever the numbers; a refused creation's too. Assumes nothing.
+use Rattle.std.specs.Prelude.{⊤}
 use mathlib.Core.Path.{◌≡◌, sym, subst}
 use mathlib.Core.Bool.{false}
 use Prim.Native.Nat.{ℕ, ◌+◌, ◌*◌, ◌≤◌}
@@ -8,9 +9,9 @@ use lib.Dec.{ltb}
 use Rattle.tables.proofs.Tables.{by_test, cond_elim}
 use Rattle.refusal.specs.Rules.{M}
 use Rattle.flowcontrol.specs.declared.FlowControl.{FlowControl}
-use Rattle.flowcontrol.specs.declared.Outcome.{Outcome}
 use Rattle.flowcontrol.specs.State.{Good}
 use Rattle.flowcontrol.specs.Rules.{fresh, bad_numbers, created, with_consumed, with_window, consumed_more, committed, recent, autotuned, at_least}
+use Rattle.refusal.specs.declared.Outcome.{Outcome}
 
 pub fresh_good : (limit window maximum : ℕ) → limit ≤ M → maximum ≤ M → Good (fresh limit window maximum)
 fresh_good limit window maximum l m = record { consumed_in = omega arith; window_in = omega arith; maximum_in = m; limit_in = omega arith }
@@ -33,16 +34,16 @@ numbers_in limit window maximum e =
 
 -- ---- the calls
 
-pub created_good : (limit window maximum : ℕ) → Good (created limit window maximum).flow
+pub created_good : (limit window maximum : ℕ) → Good (created limit window maximum).state
 created_good limit window maximum =
-    cond_elim (λ (r : Outcome). Good r.flow) (bad_numbers limit window maximum)
+    cond_elim (λ (r : Outcome ⊤ FlowControl). Good r.state) (bad_numbers limit window maximum)
     (λ _. fresh_good 0 0 0 (omega arith) (omega arith))
     (λ e. let h = numbers_in limit window maximum e in fresh_good limit window maximum h.0 h.1)
 
 module _ (f : FlowControl) (g : Good f) where
-  pub consumed_more_good : (n : ℕ) → Good (consumed_more f n).flow
+  pub consumed_more_good : (n : ℕ) → Good (consumed_more f n).state
   consumed_more_good n =
-      cond_elim (λ (r : Outcome). Good r.flow) (ltb M (f.consumed + n))
+      cond_elim (λ (r : Outcome ⊤ FlowControl). Good r.state) (ltb M (f.consumed + n))
       (λ _. g)
       (λ e. consumed_good f g (f.consumed + n) (ltb-false M (f.consumed + n) e))
 
@@ -53,16 +54,16 @@ module _ (f : FlowControl) (g : Good f) where
   pub autotuned_good : (now rtt : ℕ) → Good (autotuned f now rtt)
   autotuned_good now rtt = cond_elim Good (recent f.last_update now rtt) (λ _. window_good f g (2 * f.window)) (λ _. g)
 
-  pub at_least_good : (n : ℕ) → Good (at_least f n).flow
+  pub at_least_good : (n : ℕ) → Good (at_least f n).state
   at_least_good n =
-      cond_elim (λ (r : Outcome). Good r.flow) (ltb M n)
+      cond_elim (λ (r : Outcome ⊤ FlowControl). Good r.state) (ltb M n)
       (λ _. g)
       (λ _. cond_elim Good (ltb f.window n) (λ _. window_good f g n) (λ _. g))
 
 -- ---- a lent window: the record at exit is good
 
 module _ (f : FlowControl) (g : Good f) (x : FlowControl) where
-  pub consume_good : (n : ℕ) → x ≡ (consumed_more f n).flow → Good x
+  pub consume_good : (n : ℕ) → x ≡ (consumed_more f n).state → Good x
   consume_good n e = subst Good (sym e) (consumed_more_good f g n)
 
   pub commit_good : (now : ℕ) → x ≡ committed f now → Good x

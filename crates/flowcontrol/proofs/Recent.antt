@@ -1,15 +1,14 @@
 -- Half the time against one round trip says what the time against two says. Assumes nothing.
+use Rattle.std.specs.Prelude.{Option, Some}
 use mathlib.Core.Path.{◌≡◌}
 use mathlib.Core.Bool.{true, false}
 use Prim.Native.Nat.{ℕ, ◌+◌, ◌-◌, ◌*◌, ◌/◌, ◌%◌, ◌≤◌, ◌<◌}
 use native.Mathlib.Omega.{arith}
 use native.Mathlib.Nat.{div-add-mod, mod-lt}
 use borrow.Author.Tests.{lt-ltb, le-ltb}
-use Rattle.refusal.specs.declared.OptionU64.{OptionU64}
-use Rattle.refusal.specs.declared.OptionU64.TheVariants.{Some}
 use Rattle.flowcontrol.specs.Rules.{recent}
 
-module _ (last : OptionU64) (before now rtt t : ℕ) (is : last ≡ Some before) (e : t ≡ now - before) where
+module _ (last : Option ℕ) (before now rtt t : ℕ) (is : last ≡ Some before) (e : t ≡ now - before) where
   halves : (t ≡ 2 * (t / 2) + t % 2) × (t % 2 < 2)
   halves = (omega (arith, div-add-mod t 2), mod-lt t (omega arith))
 

@@ -1,15 +1,16 @@
 -- The contracts determine the answer and the window: no second one satisfies them. Assumes nothing.
+use Rattle.std.specs.Prelude.{Result, ⊤}
 use mathlib.Core.Path.{◌≡◌}
 use mathlib.Core.Bool.{Bool}
 use Prim.Native.Nat.{ℕ}
 use Rattle.tables.proofs.Tables.{no_second}
-use Rattle.refusal.specs.declared.Answer.{Answer}
 use Rattle.flowcontrol.specs.declared.FlowControl.{FlowControl}
-use Rattle.flowcontrol.specs.declared.Outcome.{Outcome}
 use Rattle.flowcontrol.specs.Check.{good_by}
 use Rattle.flowcontrol.specs.Rules.{created, consumed_more, due, next, committed, autotuned, at_least}
+use Rattle.refusal.specs.declared.Outcome.{Outcome}
+use Rattle.refusal.specs.declared.Refusal.{Refusal}
 
-pub new_unique : (limit window maximum : ℕ) (p q : Outcome) → p ≡ created limit window maximum → q ≡ created limit window maximum → p ≡ q
+pub new_unique : (limit window maximum : ℕ) (p q : Outcome ⊤ FlowControl) → p ≡ created limit window maximum → q ≡ created limit window maximum → p ≡ q
 new_unique limit window maximum = no_second
 
 pub window_unique : (f : FlowControl) (p q : ℕ) → p ≡ f.window → q ≡ f.window → p ≡ q
@@ -18,7 +19,7 @@ window_unique f = no_second
 pub max_data_unique : (f : FlowControl) (p q : ℕ) → p ≡ f.max_data → q ≡ f.max_data → p ≡ q
 max_data_unique f = no_second
 
-pub add_consumed_unique : (f : FlowControl) (n : ℕ) (p q : Outcome) → p ≡ consumed_more f n → q ≡ consumed_more f n → p ≡ q
+pub add_consumed_unique : (f : FlowControl) (n : ℕ) (p q : Outcome ⊤ FlowControl) → p ≡ consumed_more f n → q ≡ consumed_more f n → p ≡ q
 add_consumed_unique f n = no_second
 
 pub should_update_max_data_unique : (f : FlowControl) (p q : Bool) → p ≡ due f → q ≡ due f → p ≡ q
@@ -33,13 +34,13 @@ update_max_data_unique f now = no_second
 pub autotune_window_unique : (f : FlowControl) (now rtt : ℕ) (p q : FlowControl) → p ≡ autotuned f now rtt → q ≡ autotuned f now rtt → p ≡ q
 autotune_window_unique f now rtt = no_second
 
-pub ensure_window_lower_bound_unique : (f : FlowControl) (n : ℕ) (p q : Outcome) → p ≡ at_least f n → q ≡ at_least f n → p ≡ q
+pub ensure_window_lower_bound_unique : (f : FlowControl) (n : ℕ) (p q : Outcome ⊤ FlowControl) → p ≡ at_least f n → q ≡ at_least f n → p ≡ q
 ensure_window_lower_bound_unique f n = no_second
 
 -- ---- a lent window: the answer, and the record at exit
 
-pub consume_unique : (f : FlowControl) (n : ℕ) (p q : Answer) (x y : FlowControl)
-    → p ≡ (consumed_more f n).answer → q ≡ (consumed_more f n).answer → x ≡ (consumed_more f n).flow → y ≡ (consumed_more f n).flow → (p ≡ q) × (x ≡ y)
+pub consume_unique : (f : FlowControl) (n : ℕ) (p q : Result ⊤ Refusal) (x y : FlowControl)
+    → p ≡ (consumed_more f n).answer → q ≡ (consumed_more f n).answer → x ≡ (consumed_more f n).state → y ≡ (consumed_more f n).state → (p ≡ q) × (x ≡ y)
 consume_unique f n p q x y d e h k = (no_second p q d e, no_second x y h k)
 
 pub commit_unique : (f : FlowControl) (now p q : ℕ) (x y : FlowControl)

@@ -1,12 +1,9 @@
 -- The window (RULES 6; refusals 1 and 10). Sums and products are whole numbers. `cond t x y` is x if the test t holds, else y.
-use Rattle.std.specs.Prelude.{Bool, false, cond, ◌||◌, ℕ, ◌+◌, ◌-◌, ◌*◌, ◌/◌, min, ltb}
+use Rattle.std.specs.Prelude.{Bool, false, cond, ◌||◌, ℕ, ◌+◌, ◌-◌, ◌*◌, ◌/◌, min, ltb, Ok, Err, Option, Some, None, ⊤}
 use Rattle.refusal.specs.Rules.{M}
-use Rattle.refusal.specs.declared.Answer.TheVariants.{Done, Refused}
 use Rattle.refusal.specs.declared.Refusal.TheVariants.{Offset, BadSetup}
-use Rattle.refusal.specs.declared.OptionU64.{OptionU64}
-use Rattle.refusal.specs.declared.OptionU64.TheVariants.{None, Some}
 use Rattle.flowcontrol.specs.declared.FlowControl.{FlowControl}
-use Rattle.flowcontrol.specs.declared.Outcome.{Outcome}
+use Rattle.refusal.specs.declared.Outcome.{Outcome}
 
 -- ---- creation
 
@@ -19,10 +16,10 @@ fresh limit window maximum =
 abbrev pub bad_numbers : ℕ → ℕ → ℕ → Bool
 bad_numbers limit window maximum = ltb M limit || ltb M window || ltb M maximum
 
-abbrev pub created : ℕ → ℕ → ℕ → Outcome
+abbrev pub created : ℕ → ℕ → ℕ → Outcome ⊤ FlowControl
 created limit window maximum =
-    cond (bad_numbers limit window maximum) (record { answer = Refused BadSetup; flow = fresh 0 0 0 })
-    (record { answer = Done; flow = fresh limit window maximum })
+    cond (bad_numbers limit window maximum) (record { answer = Err BadSetup; state = fresh 0 0 0 })
+    (record { answer = Ok tt; state = fresh limit window maximum })
 
 -- ---- the parts that calls change
 
@@ -38,10 +35,10 @@ with_window f n =
 -- ---- consuming, and the next limit
 
 -- `add_consumed`: Offset exactly if the total would pass M
-abbrev pub consumed_more : FlowControl → ℕ → Outcome
+abbrev pub consumed_more : FlowControl → ℕ → Outcome ⊤ FlowControl
 consumed_more f n =
-    cond (ltb M (f.consumed + n)) (record { answer = Refused Offset; flow = f })
-    (record { answer = Done; flow = with_consumed f (f.consumed + n) })
+    cond (ltb M (f.consumed + n)) (record { answer = Err Offset; state = f })
+    (record { answer = Ok tt; state = with_consumed f (f.consumed + n) })
 
 -- an update is due exactly if limit - consumed < window / 2, rounded down; consumed above the limit counts as 0 left
 abbrev pub due : FlowControl → Bool
@@ -58,7 +55,7 @@ committed f now =
 -- ---- the window
 
 -- there was an update, less than 2 × rtt ago; a clock gone back counts as 0 elapsed
-abbrev pub recent : OptionU64 → ℕ → ℕ → Bool
+abbrev pub recent : Option ℕ → ℕ → ℕ → Bool
 recent None now rtt = false
 recent (Some before) now rtt = ltb (now - before) (2 * rtt)
 
@@ -67,7 +64,7 @@ abbrev pub autotuned : FlowControl → ℕ → ℕ → FlowControl
 autotuned f now rtt = cond (recent f.last_update now rtt) (with_window f (2 * f.window)) f
 
 -- `ensure_window_lower_bound`: Offset exactly if it is above M
-abbrev pub at_least : FlowControl → ℕ → Outcome
+abbrev pub at_least : FlowControl → ℕ → Outcome ⊤ FlowControl
 at_least f n =
-    cond (ltb M n) (record { answer = Refused Offset; flow = f })
-    (record { answer = Done; flow = cond (ltb f.window n) (with_window f n) f })
+    cond (ltb M n) (record { answer = Err Offset; state = f })
+    (record { answer = Ok tt; state = cond (ltb f.window n) (with_window f n) f })

@@ -5,15 +5,15 @@ ghost use Rattle.flowcontrol.specs.State.{Good};
 ghost use Rattle.flowcontrol.specs.Rules.{consumed_more, committed, autotuned};
 
 use crate::FlowControl;
-use refusal::Answer;
+use refusal::Refusal;
 
 // Counts `n` bytes more. Offset where the total would pass M; then the record stays as it is.
-pub fn consume(flow: &mut FlowControl, n: u64) -> Answer
+pub fn consume(flow: &mut FlowControl, n: u64) -> Result<(), Refusal>
     requires { Good flow.old }
-    ensures { (flow.new ≡ (consumed_more flow.old n).flow) × (result ≡ (consumed_more flow.old n).answer) }
+    ensures { (flow.new ≡ (consumed_more flow.old n).state) × (result ≡ (consumed_more flow.old n).answer) }
 {
     let out = FlowControl::add_consumed(*flow, n);
-    *flow = out.flow;
+    *flow = out.state;
     out.answer
 }
 

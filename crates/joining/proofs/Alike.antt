@@ -1,5 +1,6 @@
 -- A buffer that joins is like one whose table has no end: after the same accepted calls, emits give the same bytes and marks, retransmits the same
 -- amounts, and as many bytes are to be sent, as long as every ack drops the same bytes of both. Assumes nothing.
+use Rattle.std.specs.Prelude.{Option, Some, Result, Ok, Err, ⊤}
 use mathlib.Core.Path.{◌≡◌, refl, sym, ap, subst, subst₂, ◌∙◌}
 use mathlib.Core.Bool.{Bool, true, false, cond, ◌||◌, true≢false}
 use mathlib.Core.List.{List, [], ◌∷◌, ◌++◌}
@@ -9,11 +10,8 @@ use lib.Dec.{ltb, leb, eqb}
 use lib.ListN.{length, drop}
 use borrow.Author.Tests.{eq-eqb, eqb-true}
 use Rattle.refusal.specs.Rules.{fin_with, is_at}
-use Rattle.refusal.specs.declared.Answer.{Answer}
-use Rattle.refusal.specs.declared.Answer.TheVariants.{Done, Refused}
+use Rattle.refusal.specs.declared.Refusal.{Refusal}
 use Rattle.refusal.specs.declared.Refusal.TheVariants.{FinalSize, NoRoom, BadSetup}
-use Rattle.refusal.specs.declared.OptionU64.{OptionU64}
-use Rattle.refusal.specs.declared.OptionU64.TheVariants.{Some}
 use Rattle.range_buf.specs.declared.RangeBuf.{RangeBuf}
 use Rattle.range_buf.specs.Rules.{end}
 use Rattle.ranges.specs.State.{upto}
@@ -82,13 +80,13 @@ abbrev write_numbers : Send → ℕ → Bool → Send
 write_numbers x n fin =
     with_end (with_queue x [] 0 (x.buffered + accepted x n)) (x.off + accepted x n) (fin_with x.fin (x.off + n) (marked x n fin))
 
-abbrev write_tests : Send → ℕ → ℕ → ℕ → Bool → Answer
+abbrev write_tests : Send → ℕ → ℕ → ℕ → Bool → Result ⊤ Refusal
 write_tests x b a n fin =
-    cond (other_arena x a) (Refused BadSetup) (
+    cond (other_arena x a) (Err BadSetup) (
     unless_stopped x.error (
-    cond (passes_final x.fin (x.off + n) (marked x n fin)) (Refused FinalSize) (
-    cond (ltb x.room (accepted x n + (x.off - b))) (Refused NoRoom) (
-    Done))))
+    cond (passes_final x.fin (x.off + n) (marked x n fin)) (Err FinalSize) (
+    cond (ltb x.room (accepted x n + (x.off - b))) (Err NoRoom) (
+    Ok tt))))
 
 abbrev reset_numbers : Send → ℕ → Send
 reset_numbers x o =
@@ -255,8 +253,8 @@ module _ (s t : Send) (u : Sound s) (v : Sound t) (a : Alike s t) where
     bytes = same_refl [];
   }
 
-  pub closed_alike : (shut : Bool) (error : OptionU64) → Alike (with_closed s shut error) (with_closed t shut error)
+  pub closed_alike : (shut : Bool) (error : Option ℕ) → Alike (with_closed s shut error) (with_closed t shut error)
   closed_alike shut error = record { numbers = ap (λ (x : Send). with_closed x shut error) a.numbers; begin = a.begin; bytes = a.bytes }
 
-  pub limit_alike : (limit : ℕ) (blocked : OptionU64) → Alike (with_limit s limit blocked) (with_limit t limit blocked)
+  pub limit_alike : (limit : ℕ) (blocked : Option ℕ) → Alike (with_limit s limit blocked) (with_limit t limit blocked)
   limit_alike limit blocked = record { numbers = ap (λ (x : Send). with_limit x limit blocked) a.numbers; begin = a.begin; bytes = a.bytes }

@@ -1,17 +1,18 @@
 -- Joining at the edge of the table, one statement over a table of calls: a buffer with these chunks, given this call, answers as the table says, and
 -- leaves these chunks. By computing what the contracts promise. Assumes nothing.
+use Rattle.std.specs.Prelude.{None}
 use mathlib.Core.Path.{◌≡◌, refl}
 use mathlib.Core.Bool.{false}
 use mathlib.Core.List.{List, [], ◌∷◌, ◌++◌}
 use Prim.Native.Nat.{ℕ, zero, suc, ◌+◌, ◌*◌}
 use lib.ListN.{length}
 use Rattle.refusal.specs.Rules.{M, Told, success, refusal, told_count}
+use Rattle.refusal.specs.declared.Outcome.{Outcome}
 use Rattle.refusal.specs.declared.Refusal.TheVariants.{TableFull}
-use Rattle.refusal.specs.declared.OptionU64.TheVariants.{None}
 use Rattle.range_buf.specs.declared.RangeBuf.{RangeBuf}
 use Rattle.send_buf.specs.State.{Send, view_of, buf_of, total}
 use Rattle.send_buf.specs.Rules.{written, write_judged, wrote, ack_drops, ack_judged, acked_more, retransmits, loss_judged, lost}
-use Rattle.send_buf.specs.declared.CountOutcome.{CountOutcome}
+use Rattle.send_buf.specs.declared.SendBuf.{SendBuf}
 
 abbrev chunk : ℕ → ℕ → ℕ → RangeBuf
 chunk off len pos = record { off = off; len = len; pos = pos }
@@ -39,24 +40,24 @@ holding cs off = record {
 }
 
 -- write n bytes; the n bytes at a are lost; they are acked
-abbrev write : ℕ → Send → CountOutcome
+abbrev write : ℕ → Send → Outcome ℕ SendBuf
 write n s = written s 65536 n false
 
-abbrev retransmit : ℕ → ℕ → Send → CountOutcome
+abbrev retransmit : ℕ → ℕ → Send → Outcome ℕ SendBuf
 retransmit a n s = retransmits s a n
 
-abbrev ack_and_drop : ℕ → ℕ → Send → CountOutcome
+abbrev ack_and_drop : ℕ → ℕ → Send → Outcome ℕ SendBuf
 ack_and_drop a n s = ack_drops s a n
 
 -- chunks and the end of them, a call, its answer, the chunks after it
 pub record Line : Type 0 where
   held : List RangeBuf
   off : ℕ
-  call : Send → CountOutcome
+  call : Send → Outcome ℕ SendBuf
   answer : Told
   after : List RangeBuf
 
-abbrev line : List RangeBuf → ℕ → (Send → CountOutcome) → Told → List RangeBuf → Line
+abbrev line : List RangeBuf → ℕ → (Send → Outcome ℕ SendBuf) → Told → List RangeBuf → Line
 line held off call answer after = record { held = held; off = off; call = call; answer = answer; after = after }
 
 abbrev pub table : List Line
@@ -87,18 +88,18 @@ table =
     ∷ []
 
 -- what each line's call gives, and what the line says that it gives; the send position is 0 in all
-pub record Result : Type 0 where
+pub record Seen : Type 0 where
   answer : Told
   chunks : List RangeBuf
   pos : ℕ
 
-abbrev pub results : List Line → List Result
+abbrev pub results : List Line → List Seen
 results [] = []
 results (l ∷ ls) =
     let o = l.call (holding l.held l.off) in
-    record { answer = told_count o.answer; chunks = (view_of o.buf).chunks; pos = (view_of o.buf).pos } ∷ results ls
+    record { answer = told_count o.answer; chunks = (view_of o.state).chunks; pos = (view_of o.state).pos } ∷ results ls
 
-abbrev pub expected : List Line → List Result
+abbrev pub expected : List Line → List Seen
 expected [] = []
 expected (l ∷ ls) = record { answer = l.answer; chunks = l.after; pos = 0 } ∷ expected ls
 

@@ -1,5 +1,6 @@
 -- When a retransmit finds the chunk table full: exactly if 64 chunks stand, its range ends inside one, and no boundary of the 65 that it would leave
 -- goes. (A write never does: `settled.ExactSender.write_never_full`.) Assumes nothing.
+use Rattle.std.specs.Prelude.{Result, Ok, Err, ⊤}
 use mathlib.Core.Path.{◌≡◌, refl, sym, ap, ◌∙◌}
 use mathlib.Core.Bool.{Bool, true, false, cond, not, ◌&&◌}
 use mathlib.Core.List.{List, [], ◌∷◌}
@@ -8,7 +9,7 @@ use native.Mathlib.Omega.{arith}
 use lib.Dec.{ltb, leb}
 use lib.ListN.{length}
 use borrow.Author.Tests.{ltb-true, ltb-false, le-ltb, lt-ltb, not-true}
-use Rattle.refusal.specs.declared.Answer.TheVariants.{Done, Refused}
+use Rattle.refusal.specs.declared.Refusal.{Refusal}
 use Rattle.refusal.specs.declared.Refusal.TheVariants.{TableFull, NeverSent}
 use Rattle.range_buf.specs.declared.RangeBuf.{RangeBuf}
 use Rattle.range_buf.specs.Rules.{end}
@@ -34,7 +35,7 @@ tabled_full cs =
     cond_elim (λ (x : List RangeBuf). ltb 64 (length x) ≡ ltb 64 (length (joined cs))) (ltb 64 (length cs)) (λ _. refl)
     (λ e. let h = ltb-false 64 (length cs) e in le-ltb 64 (length cs) h ∙ sym (le-ltb 64 (length (joined cs)) (omega (arith, length_joined cs))))
 
-refused_full : (p q : Bool) → cond p (Refused NeverSent) (cond q (Refused TableFull) Done) ≡ Refused TableFull → (p ≡ false) × (q ≡ true)
+refused_full : (p q : Bool) → ◌≡◌ {A = Result ⊤ Refusal} (cond p (Err NeverSent) (cond q (Err TableFull) (Ok tt))) (Err TableFull) → (p ≡ false) × (q ≡ true)
 refused_full true q e = let z : ◌≡◌ {A = ℕ} 0 1 = cc in absurd (omega arith)
 refused_full false true e = (refl, refl)
 refused_full false false e = let z : ◌≡◌ {A = ℕ} 0 1 = cc in absurd (omega arith)
@@ -49,7 +50,7 @@ back_few (c ∷ cs) a e =
     P : List RangeBuf → Type 0
     P x = length x ≤ suc (suc (length cs))
 
-pub loss_full : (s : Send) → GoodSend s → (a n : ℕ) → loss_judged s a n ≡ Refused TableFull → Full s a n
+pub loss_full : (s : Send) → GoodSend s → (a n : ℕ) → loss_judged s a n ≡ Err TableFull → Full s a n
 unfolding loss_judged
 loss_full s g a n e =
     let cs : List RangeBuf = back s.chunks a (a + n) in
@@ -66,7 +67,7 @@ loss_full s g a n e =
       turns = stays_all cs (omega (arith, l, k, g.few));
     }
 
-pub full_loss : (s : Send) (a n : ℕ) → Full s a n → loss_judged s a n ≡ Refused TableFull
+pub full_loss : (s : Send) (a n : ℕ) → Full s a n → loss_judged s a n ≡ Err TableFull
 unfolding loss_judged
 full_loss s a n f =
     let cs : List RangeBuf = back s.chunks a (a + n) in
@@ -79,7 +80,7 @@ alternate_bytes lo [] hi k h l = absurd (omega arith)
 alternate_bytes lo (c ∷ cs) hi k h l = omega (arith, alternates_long lo c cs hi k h)
 
 -- so an arena of less than 128 bytes never finds it full
-pub small_never_full : (s : Send) → GoodSend s → (a n : ℕ) → s.room < 128 → loss_judged s a n ≡ Refused TableFull → ⊥
+pub small_never_full : (s : Send) → GoodSend s → (a n : ℕ) → s.room < 128 → loss_judged s a n ≡ Err TableFull → ⊥
 small_never_full s g a n h e =
     let f = loss_full s g a n e in
     let lo : ℕ = base s.chunks s.off in

@@ -1,6 +1,7 @@
 -- The theorem of `Runs` has runs to speak of, and its condition is needed. From creation on, 65 bytes are written one by one, so that the last joins
 -- chunks. In one run bytes are lost after that and sent again, the stream is closed by a write of no bytes and all of it is acked: the theorem holds of it
 -- (`met`). In the other an ack covers a joined chunk only in part, and the two buffers answer otherwise (`differs`). By computing. Assumes nothing.
+use Rattle.std.specs.Prelude.{Result, Ok, Err, ⊤}
 use mathlib.Core.Path.{◌≡◌, refl, sym, subst}
 use mathlib.Core.Bool.{Bool, true, false, not, ◌&&◌, ◌||◌}
 use mathlib.Core.List.{List, [], ◌∷◌, ◌++◌}
@@ -8,8 +9,7 @@ use Prim.Native.Nat.{ℕ, zero, suc, ◌≤◌, ◌<◌}
 use lib.Dec.{ltb, leb}
 use lib.ListN.{replicate}
 use borrow.Author.Tests.{lt-ltb, le-leb}
-use Rattle.refusal.specs.declared.Answer.{Answer}
-use Rattle.refusal.specs.declared.Answer.TheVariants.{Done, Refused}
+use Rattle.refusal.specs.declared.Refusal.{Refusal}
 use Rattle.range_buf.specs.declared.RangeBuf.{RangeBuf}
 use Rattle.range_buf.specs.Rules.{end}
 use Rattle.arena.specs.Rules.{kept, held}
@@ -21,13 +21,13 @@ use Rattle.joining.proofs.Runs.{run_until_part}
 
 -- ---- the premises as tests
 
-abbrev is_done : Answer → Bool
-is_done Done = true
-is_done (Refused why) = false
+abbrev is_done : Result ⊤ Refusal → Bool
+is_done (Ok done) = true
+is_done (Err why) = false
 
-done : (a : Answer) → is_done a ≡ true → a ≡ Done
-done Done e = refl
-done (Refused why) e = clash (sym e)
+done_is : (a : Result ⊤ Refusal) → is_done a ≡ true → a ≡ Ok tt
+done_is (Ok done) e = refl
+done_is (Err why) e = clash (sym e)
 
 abbrev accepts : Kind → Send → List ℕ → List Call → Bool
 accepts t s ar [] = true
@@ -37,7 +37,7 @@ accepted : (t : Kind) (s : Send) (ar : List ℕ) (xs : List Call) → accepts t 
 accepted t s ar [] e = tt
 accepted t s ar (x ∷ xs) e =
     let p = and_true (is_done (judged t s ar x)) (accepts t (next t s x) (arena_after s ar x) xs) e in
-    (done (judged t s ar x) p.0, accepted t (next t s x) (arena_after s ar x) xs p.1)
+    (done_is (judged t s ar x) p.0, accepted t (next t s x) (arena_after s ar x) xs p.1)
 
 -- a chunk begins above lo, and not above k
 abbrev begins : List RangeBuf → ℕ → ℕ → Bool

@@ -1,17 +1,16 @@
 -- For the same accepted calls, a buffer that joins answers as one whose table has no end: the same numbers, bytes and marks, as many bytes to send,
 -- from the same offset on; until an ack covers a joined chunk only in part. Assumes nothing.
+use Rattle.std.specs.Prelude.{Option, None, Some, Ok, Err}
 use mathlib.Core.Path.{◌≡◌, refl, sym, ap, subst, ◌∙◌}
-use mathlib.Core.Bool.{Bool, true, false, cond, not, ◌&&◌}
+use mathlib.Core.Bool.{Bool, true, false, cond}
 use mathlib.Core.List.{List, [], ◌∷◌, ◌++◌}
 use Prim.Native.Nat.{ℕ, ◌+◌, ◌-◌, ◌≤◌, max}
 use native.Mathlib.Omega.{arith}
-use lib.Dec.{ltb, eqb}
+use lib.Dec.{eqb}
 use lib.ListN.{length, take, drop, length-append, length-drop}
 use Rattle.refusal.specs.Rules.{known}
-use Rattle.refusal.specs.declared.Answer.TheVariants.{Done, Refused}
 use Rattle.refusal.specs.declared.Refusal.TheVariants.{FinalSize, NoRoom, TableFull, NeverSent, Done as NothingMore, BadSetup}
-use Rattle.refusal.specs.declared.OptionU64.{OptionU64}
-use Rattle.refusal.specs.declared.OptionU64.TheVariants.{None, Some}
+use Rattle.refusal.proofs.Chain.{passes}
 use Rattle.arena.specs.Rules.{kept, held}
 use Rattle.range_buf.specs.declared.RangeBuf.{RangeBuf}
 use Rattle.tables.proofs.Tables.{cond_elim}
@@ -28,7 +27,7 @@ use Rattle.joining.proofs.Parts.{Finer, begins_tabled, begins_sent, finer_append
 
 -- ---- every call keeps a buffer sound, however many chunks it has
 
-sound_queue : (s : Send) (cs : List RangeBuf) (pos buffered off : ℕ) (fin : OptionU64) (lo : ℕ) → Adjoin lo cs off → pos ≤ length cs → Spent pos cs
+sound_queue : (s : Send) (cs : List RangeBuf) (pos buffered off : ℕ) (fin : Option ℕ) (lo : ℕ) → Adjoin lo cs off → pos ≤ length cs → Spent pos cs
     → Sound (with_end (with_queue s cs pos buffered) off fin)
 sound_queue s cs pos buffered off fin lo k p h =
     record { adjoin = subst (λ (x : ℕ). Adjoin x cs off) (sym (adj_base lo cs off k)) k; pos_in = p; spent = h }
@@ -111,10 +110,10 @@ module _ (s : Send) (u : Sound s) where
   unfolding was_reset
   sound_reset = record { adjoin = refl; pos_in = omega arith; spent = tt }
 
-  sound_closed : (shut : Bool) (error : OptionU64) → Sound (with_closed s shut error)
+  sound_closed : (shut : Bool) (error : Option ℕ) → Sound (with_closed s shut error)
   sound_closed shut error = record { adjoin = u.adjoin; pos_in = u.pos_in; spent = u.spent }
 
-  sound_limit : (limit : ℕ) (blocked : OptionU64) → Sound (with_limit s limit blocked)
+  sound_limit : (limit : ℕ) (blocked : Option ℕ) → Sound (with_limit s limit blocked)
   sound_limit limit blocked = record { adjoin = u.adjoin; pos_in = u.pos_in; spent = u.spent }
 
 -- what either kind needs for the two calls that are its own
@@ -141,26 +140,22 @@ next_sound t k s u (update_max_data limit) = sound_limit s u (max s.limit limit)
 next_sound t k s u (update_blocked_at blocked) = sound_limit s u s.limit blocked
 
 -- the refusals of the one hold those of the other
-write_done : (s : Send) (a n : ℕ) (fin : Bool) → write_judged s a n fin ≡ Done → free_write_judged s a n fin ≡ Done
+write_done : (s : Send) (a n : ℕ) (fin : Bool) → write_judged s a n fin ≡ Ok tt → free_write_judged s a n fin ≡ Ok tt
 unfolding write_judged free_write_judged
 write_done s a n fin e = inner (other_arena s a) s.error (passes_final s.fin (s.off + n) (marked s n fin)) (no_room s n) (no_entry s n) e
   where
-    inner : (p : Bool) (f : OptionU64) (q r t : Bool)
-        → cond p (Refused BadSetup) (unless_stopped f (cond q (Refused FinalSize) (cond r (Refused NoRoom) (cond t (Refused TableFull) Done)))) ≡ Done
-        → cond p (Refused BadSetup) (unless_stopped f (cond q (Refused FinalSize) (cond r (Refused NoRoom) Done))) ≡ Done
+    inner : (p : Bool) (f : Option ℕ) (q r t : Bool)
+        → cond p (Err BadSetup) (unless_stopped f (cond q (Err FinalSize) (cond r (Err NoRoom) (cond t (Err TableFull) (Ok tt))))) ≡ Ok tt
+        → cond p (Err BadSetup) (unless_stopped f (cond q (Err FinalSize) (cond r (Err NoRoom) (Ok tt)))) ≡ Ok tt
     inner true f q r t e = e
     inner false (Some code) q r t e = e
     inner false None true r t e = e
     inner false None false true t e = e
     inner false None false false t e = refl
 
-loss_done : (s : Send) (a n : ℕ) → loss_judged s a n ≡ Done → free_loss_judged s a n ≡ Done
+loss_done : (s : Send) (a n : ℕ) → loss_judged s a n ≡ Ok tt → free_loss_judged s a n ≡ Ok tt
 unfolding loss_judged free_loss_judged
-loss_done s a n e = inner (never_sent s a n) (not (settled s a n) && ltb 64 (length (tabled (back s.chunks a (a + n))))) e
-  where
-    inner : (p q : Bool) → cond p (Refused NeverSent) (cond q (Refused TableFull) Done) ≡ Done → cond p (Refused NeverSent) Done ≡ Done
-    inner true q e = e
-    inner false q e = refl
+loss_done s a n e = let p = passes (never_sent s a n) NeverSent _ e in rw p.0
 
 -- ---- one call
 
@@ -277,7 +272,7 @@ module _ (s t : Send) (r : Both s t) where
       (closed_alike (was_reset s) (was_reset t) (sound_reset s u) (sound_reset t v) (reset_alike s t u v h) s.shut (Some code))) (finer_reset s t r)
   next_both shutdown w =
       after_both shutdown
-      (subst (λ (x : OptionU64). Alike (with_closed (was_reset s) true s.error) (with_closed (was_reset t) true x)) (ap (λ (x : Send). x.error) h.numbers)
+      (subst (λ (x : Option ℕ). Alike (with_closed (was_reset s) true s.error) (with_closed (was_reset t) true x)) (ap (λ (x : Send). x.error) h.numbers)
       (closed_alike (was_reset s) (was_reset t) (sound_reset s u) (sound_reset t v) (reset_alike s t u v h) true s.error)) (finer_reset s t r)
   next_both (update_max_data limit) w =
       after_both (update_max_data limit)
@@ -317,15 +312,15 @@ module _ (s t : Send) (r : Both s t) where
   arena_same ar (update_blocked_at blocked) = refl
 
   -- what the one accepts, the other accepts
-  accepts : (ar : List ℕ) (x : Call) → judged joining s ar x ≡ Done → judged endless t ar x ≡ Done
+  accepts : (ar : List ℕ) (x : Call) → judged joining s ar x ≡ Ok tt → judged endless t ar x ≡ Ok tt
   accepts ar (write input fin) e = sym (write_told s t u v h (length ar) (length input) fin) ∙ write_done s (length ar) (length input) fin e
-  accepts ar (emit out) e = sym (ap (λ (x : Send). cond (other_arena x (length ar)) (Refused BadSetup) Done) h.numbers) ∙ e
+  accepts ar (emit out) e = sym (ap (λ (x : Send). cond (other_arena x (length ar)) (Err BadSetup) (Ok tt)) h.numbers) ∙ e
   accepts ar (ack a n) e = sym (ack_told s t u v h a n) ∙ e
   accepts ar (ack_and_drop a n) e = sym (ack_told s t u v h a n) ∙ e
   accepts ar (retransmit a n) e = sym (loss_told s t u v h a n) ∙ loss_done s a n e
   accepts ar reset e = refl
-  accepts ar (stop code) e = sym (ap (λ (x : Send). cond (known x.error) (Refused NothingMore) Done) h.numbers) ∙ e
-  accepts ar shutdown e = sym (ap (λ (x : Send). cond x.shut (Refused NothingMore) Done) h.numbers) ∙ e
+  accepts ar (stop code) e = sym (ap (λ (x : Send). cond (known x.error) (Err NothingMore) (Ok tt)) h.numbers) ∙ e
+  accepts ar shutdown e = sym (ap (λ (x : Send). cond x.shut (Err NothingMore) (Ok tt)) h.numbers) ∙ e
   accepts ar (update_max_data limit) e = e
   accepts ar (update_blocked_at blocked) e = refl
 

@@ -1,12 +1,9 @@
 -- A send buffer's calls as data, to speak of runs of them: which are accepted, what each gives, and what it leaves. Of two buffers: that of the
 -- rules, which joins chunks where they would be more than 64 (RULES 4.10), and one that never joins and whose table has no end.
-use Rattle.std.specs.Prelude.{◌≡◌, ◌⊎◌, Bool, true, cond, List, [], ◌∷◌, ◌++◌, ℕ, ◌+◌, ◌≤◌, ◌<◌, max, ltb, length, take, drop}
+use Rattle.std.specs.Prelude.{◌≡◌, ◌⊎◌, Bool, true, cond, List, [], ◌∷◌, ◌++◌, ℕ, ◌+◌, ◌≤◌, ◌<◌, max, ltb, length, take, drop, Option, Some, Result, Ok, Err, ⊤}
 use Rattle.refusal.specs.Rules.{M, Told, success, told, told_count, told_emit, told_sizes, known, is_at, fin_with}
-use Rattle.refusal.specs.declared.Answer.{Answer}
-use Rattle.refusal.specs.declared.Answer.TheVariants.{Done, Refused}
+use Rattle.refusal.specs.declared.Refusal.{Refusal}
 use Rattle.refusal.specs.declared.Refusal.TheVariants.{Offset, FinalSize, NoRoom, NeverSent, Done as NothingMore, BadSetup}
-use Rattle.refusal.specs.declared.OptionU64.{OptionU64}
-use Rattle.refusal.specs.declared.OptionU64.TheVariants.{Some}
 use Rattle.arena.specs.Rules.{kept, held}
 use Rattle.range_buf.specs.declared.RangeBuf.{RangeBuf}
 use Rattle.range_buf.specs.Rules.{end}
@@ -17,13 +14,13 @@ use Rattle.send_buf.specs.Rules.{other_arena, with_queue, with_end, with_limit, 
 
 -- ---- a table without end: no joining, and TableFull for acked ranges alone
 
-unfoldable pub free_write_judged : Send → ℕ → ℕ → Bool → Answer
+unfoldable pub free_write_judged : Send → ℕ → ℕ → Bool → Result ⊤ Refusal
 free_write_judged s a n fin =
-    cond (other_arena s a) (Refused BadSetup) (
+    cond (other_arena s a) (Err BadSetup) (
     unless_stopped s.error (
-    cond (passes_final s.fin (s.off + n) (marked s n fin)) (Refused FinalSize) (
-    cond (no_room s n) (Refused NoRoom) (
-    Done))))
+    cond (passes_final s.fin (s.off + n) (marked s n fin)) (Err FinalSize) (
+    cond (no_room s n) (Err NoRoom) (
+    Ok tt))))
 
 unfoldable pub free_wrote : Send → ℕ → Bool → Send
 free_wrote s n fin =
@@ -32,8 +29,8 @@ free_wrote s n fin =
     (s.off + k)
     (fin_with s.fin (s.off + n) (marked s n fin))
 
-unfoldable pub free_loss_judged : Send → ℕ → ℕ → Answer
-free_loss_judged s a n = cond (never_sent s a n) (Refused NeverSent) Done
+unfoldable pub free_loss_judged : Send → ℕ → ℕ → Result ⊤ Refusal
+free_loss_judged s a n = cond (never_sent s a n) (Err NeverSent) (Ok tt)
 
 unfoldable pub free_lost : Send → ℕ → ℕ → Send
 free_lost s a n =
@@ -42,9 +39,9 @@ free_lost s a n =
 
 -- the two kinds of buffer, by the two calls in which they differ: refusals and effects
 pub record Kind : Type 0 where
-  pub write_judged : Send → ℕ → ℕ → Bool → Answer
+  pub write_judged : Send → ℕ → ℕ → Bool → Result ⊤ Refusal
   pub wrote : Send → ℕ → Bool → Send
-  pub loss_judged : Send → ℕ → ℕ → Answer
+  pub loss_judged : Send → ℕ → ℕ → Result ⊤ Refusal
   pub lost : Send → ℕ → ℕ → Send
 
 abbrev pub joining : Kind
@@ -65,20 +62,20 @@ pub data Call : Type 0 where
   stop : (code : ℕ) → Call
   shutdown : Call
   update_max_data : (limit : ℕ) → Call
-  update_blocked_at : (blocked : OptionU64) → Call
+  update_blocked_at : (blocked : Option ℕ) → Call
 
 -- is it accepted, with the arena ar?
-abbrev pub judged : Kind → Send → List ℕ → Call → Answer
+abbrev pub judged : Kind → Send → List ℕ → Call → Result ⊤ Refusal
 judged t s ar (write input fin) = t.write_judged s (length ar) (length input) fin
-judged t s ar (emit out) = cond (other_arena s (length ar)) (Refused BadSetup) Done
+judged t s ar (emit out) = cond (other_arena s (length ar)) (Err BadSetup) (Ok tt)
 judged t s ar (ack a n) = ack_judged s a n
 judged t s ar (ack_and_drop a n) = ack_judged s a n
 judged t s ar (retransmit a n) = t.loss_judged s a n
-judged t s ar reset = Done
-judged t s ar (stop code) = cond (known s.error) (Refused NothingMore) Done
-judged t s ar shutdown = cond s.shut (Refused NothingMore) Done
-judged t s ar (update_max_data limit) = cond (ltb M limit) (Refused Offset) Done
-judged t s ar (update_blocked_at blocked) = Done
+judged t s ar reset = Ok tt
+judged t s ar (stop code) = cond (known s.error) (Err NothingMore) (Ok tt)
+judged t s ar shutdown = cond s.shut (Err NothingMore) (Ok tt)
+judged t s ar (update_max_data limit) = cond (ltb M limit) (Err Offset) (Ok tt)
+judged t s ar (update_blocked_at blocked) = Ok tt
 
 -- the buffer after it, and the arena
 abbrev pub next : Kind → Send → Call → Send
@@ -140,17 +137,17 @@ pub record Promised : Type 0 where
 abbrev pub contract : Send → List ℕ → Call → Promised
 contract s ar (write input fin) =
     let o = written s (length ar) (length input) fin in
-    record { answer = told_count o.answer; buf = o.buf; arena = written_arena s ar input fin; out = [] }
+    record { answer = told_count o.answer; buf = o.state; arena = written_arena s ar input fin; out = [] }
 contract s ar (emit out) =
     let o = emitted s (length ar) (length out) in
-    record { answer = told_emit o.answer; buf = o.buf; arena = ar; out = emitted_out s ar out }
-contract s ar (ack a n) = let o = acks s a n in record { answer = told o.answer; buf = o.buf; arena = ar; out = [] }
-contract s ar (ack_and_drop a n) = let o = ack_drops s a n in record { answer = told_count o.answer; buf = o.buf; arena = ar; out = [] }
-contract s ar (retransmit a n) = let o = retransmits s a n in record { answer = told_count o.answer; buf = o.buf; arena = ar; out = [] }
-contract s ar reset = let o = resets s in record { answer = told_sizes o.answer; buf = o.buf; arena = ar; out = [] }
-contract s ar (stop code) = let o = stops s code in record { answer = told_sizes o.answer; buf = o.buf; arena = ar; out = [] }
-contract s ar shutdown = let o = shuts s in record { answer = told_sizes o.answer; buf = o.buf; arena = ar; out = [] }
-contract s ar (update_max_data limit) = let o = raised s limit in record { answer = told o.answer; buf = o.buf; arena = ar; out = [] }
+    record { answer = told_emit o.answer; buf = o.state; arena = ar; out = emitted_out s ar out }
+contract s ar (ack a n) = let o = acks s a n in record { answer = told o.answer; buf = o.state; arena = ar; out = [] }
+contract s ar (ack_and_drop a n) = let o = ack_drops s a n in record { answer = told_count o.answer; buf = o.state; arena = ar; out = [] }
+contract s ar (retransmit a n) = let o = retransmits s a n in record { answer = told_count o.answer; buf = o.state; arena = ar; out = [] }
+contract s ar reset = let o = resets s in record { answer = told_sizes o.answer; buf = o.state; arena = ar; out = [] }
+contract s ar (stop code) = let o = stops s code in record { answer = told_sizes o.answer; buf = o.state; arena = ar; out = [] }
+contract s ar shutdown = let o = shuts s in record { answer = told_sizes o.answer; buf = o.state; arena = ar; out = [] }
+contract s ar (update_max_data limit) = let o = raised s limit in record { answer = told o.answer; buf = o.state; arena = ar; out = [] }
 contract s ar (update_blocked_at blocked) = record { answer = success []; buf = blocked_with s blocked; arena = ar; out = [] }
 
 -- ---- runs
@@ -158,7 +155,7 @@ contract s ar (update_blocked_at blocked) = record { answer = success []; buf = 
 -- each call is accepted
 abbrev pub Accepted : Kind → Send → List ℕ → List Call → Type 0
 Accepted t s ar [] = Unit {0}
-Accepted t s ar (x ∷ xs) = (judged t s ar x ≡ Done) × Accepted t (next t s x) (arena_after s ar x) xs
+Accepted t s ar (x ∷ xs) = (judged t s ar x ≡ Ok tt) × Accepted t (next t s x) (arena_after s ar x) xs
 
 -- the buffer after them
 abbrev pub after : Kind → Send → List Call → Send

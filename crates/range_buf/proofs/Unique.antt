@@ -1,23 +1,23 @@
 -- The contracts determine the answer and the chunk: no second one satisfies them. Assumes nothing.
+use Rattle.std.specs.Prelude.{⊤}
 use mathlib.Core.Path.{◌≡◌}
 use mathlib.Core.Bool.{Bool}
 use mathlib.Core.List.{List}
 use Prim.Native.Nat.{ℕ}
 use Rattle.tables.proofs.Tables.{no_second}
 use Rattle.range_buf.specs.declared.RangeBuf.{RangeBuf}
-use Rattle.range_buf.specs.declared.Outcome.{Outcome}
-use Rattle.range_buf.specs.declared.SplitOutcome.{SplitOutcome}
 use Rattle.tables.specs.Checks.{table_by}
 use Rattle.range_buf.specs.Check.{good_by, is_zero}
 use Rattle.range_buf.specs.Rules.{start, end, avail, is_empty, created, consumed, split}
+use Rattle.refusal.specs.declared.Outcome.{Outcome}
 
-pub from_unique : (o n : ℕ) (p q : Outcome) → p ≡ created o n → q ≡ created o n → p ≡ q
+pub from_unique : (o n : ℕ) (p q : Outcome ⊤ RangeBuf) → p ≡ created o n → q ≡ created o n → p ≡ q
 from_unique o n = no_second
 
-pub consume_unique : (b : RangeBuf) (n : ℕ) (p q : Outcome) → p ≡ consumed b n → q ≡ consumed b n → p ≡ q
+pub consume_unique : (b : RangeBuf) (n : ℕ) (p q : Outcome ⊤ RangeBuf) → p ≡ consumed b n → q ≡ consumed b n → p ≡ q
 consume_unique b n = no_second
 
-pub split_off_unique : (b : RangeBuf) (n : ℕ) (p q : SplitOutcome) → p ≡ split b n → q ≡ split b n → p ≡ q
+pub split_off_unique : (b : RangeBuf) (n : ℕ) (p q : Outcome RangeBuf RangeBuf) → p ≡ split b n → q ≡ split b n → p ≡ q
 split_off_unique b n = no_second
 
 pub off_unique : (b : RangeBuf) (p q : ℕ) → p ≡ start b → q ≡ start b → p ≡ q

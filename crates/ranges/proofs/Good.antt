@@ -1,13 +1,18 @@
 -- What a good set's table is: the laws by which the code and its callers go. Assumes nothing.
 use mathlib.Core.Path.{◌≡◌, sym}
 use mathlib.Core.List.{List, [], ◌∷◌}
-use Prim.Native.Nat.{ℕ, zero, suc, ◌+◌, ◌≤◌, ◌<◌}
+use Prim.Native.Nat.{ℕ, zero, suc, ◌+◌, ◌-◌, ◌≤◌, max}
 use native.Mathlib.Omega.{arith}
-use lib.ListN.{length, drop, get_or, length-drop}
-use Rattle.tables.specs.Lists.{table_of}
+use Rattle.std.specs.List.{copy_within}
+use borrow.Rule.Slice.PartMut.{put_mid}
+use lib.ListN.{length, drop, set, replicate, length-drop}
+use Rattle.tables.specs.Lists.{table_of, splice_at}
 use Rattle.tables.proofs.Tables as tables
+use Rattle.ranges.proofs.Moved.{dropped, spliced}
 use Rattle.ranges.specs.declared.Range.{Range}
 use Rattle.ranges.specs.declared.RangeSet.{RangeSet}
+use Rattle.ranges.specs.declared.Spot.{Spot}
+use Rattle.ranges.specs.Steps.{fits}
 use Rattle.ranges.specs.State.{Good, ranges, set_of, zero_range, Sorted}
 
 -- the table of l, with its length, is the set of l
@@ -16,22 +21,26 @@ pub made : (cap n : ℕ) (inner l : List Range) → n ≡ length l → inner ≡
 made cap n inner l e t = rw (e, t)
 
 module _ (s : RangeSet) (g : Good s) where
-  pub inner_length : length s.inner ≡ 64
-  inner_length = tables.slots zero_range s.count s.inner g.table
-
   pub ranges_length : length (ranges s) ≡ s.count
   ranges_length = tables.view_length zero_range s.count s.inner g.table
 
-  -- what is left of the ranges at i: the entry at i, and what is left at i + 1; nothing, at their end
-  pub next : (i : ℕ) → i < s.count → drop i (ranges s) ≡ get_or s.inner i zero_range ∷ drop (i + 1) (ranges s)
-  next = tables.next zero_range s.count s.inner g.table
+  -- what the moves of `drop_front` and `splice` leave
+  pub dropped_front : (k : ℕ) → k ≤ s.count
+      → ◌≡◌ {A = RangeSet} (record s { inner = put_mid (s.count - k) (s.count - (s.count - k)) (copy_within s.inner k s.count 0) (replicate (s.count - (s.count - k)) zero_range); count = s.count - k })
+      (set_of s.capacity (drop k (ranges s)))
+  dropped_front k h =
+      let l = ranges s in
+      let n : s.count - k ≡ length (drop k l) = simp length-drop (omega (arith, ranges_length)) in
+      made s.capacity (s.count - k) _ (drop k l) n (dropped zero_range 64 l s.inner s.count k g.table.clear (sym ranges_length) h g.table.few)
 
-  pub done : (i : ℕ) → s.count ≤ i → drop i (ranges s) ≡ []
-  done = tables.done zero_range s.count s.inner g.table
-
-  -- the range at i; behind the ranges, both are zero
-  pub entry : (i : ℕ) → get_or (ranges s) i zero_range ≡ get_or s.inner i zero_range
-  entry = tables.entry_any zero_range s.count s.inner g.table
+  pub spliced_in : (t : Spot) (m e : ℕ) → fits s t → m ≡ t.low + 1 + (s.count - t.high) → e ≡ max m s.count
+      → ◌≡◌ {A = RangeSet} (record s { inner = put_mid m (e - m) (set (copy_within s.inner t.high s.count (t.low + 1)) t.low t.whole) (replicate (e - m) zero_range); count = m })
+      (set_of s.capacity (splice_at t.low t.high t.whole (ranges s)))
+  spliced_in t m e f a b =
+      let l = ranges s in
+      let n : m ≡ length (splice_at t.low t.high t.whole l) = omega (arith, ranges_length, tables.splice_length l t.low t.high t.whole zero_range f.0 (rw ranges_length f.1)) in
+      made s.capacity m _ (splice_at t.low t.high t.whole l) n
+      (spliced zero_range 64 l s.inner s.count t.low t.high m e t.whole g.table.clear (sym ranges_length) f.0 f.1 a b (omega (arith, g.table.few)))
 
   -- a good set is its capacity and its ranges
   pub is_set : s ≡ set_of s.capacity (ranges s)

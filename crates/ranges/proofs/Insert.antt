@@ -1,83 +1,101 @@
 -- On a sorted list the steps that the code takes (`Steps`) do what the rules say (`Rules`). Assumes nothing.
+use Rattle.std.specs.List.{filter}
 use mathlib.Core.Path.{◌≡◌, refl, sym, ap, ◌∙◌}
 use mathlib.Core.Bool.{true, false, and-false}
 use mathlib.Core.Logic.{◌⊎◌, inl, inr}
 use mathlib.Core.List.{List, [], ◌∷◌}
 use Prim.Native.Nat.{ℕ, suc, ◌+◌, ◌-◌, ◌≤◌, ◌<◌}
 use native.Mathlib.Nat.{suc-add, zero-add}
+use native.Mathlib.Numerals.{one-add}
 use native.Mathlib.Omega.{arith}
 use borrow.Author.Tests.{lt-ltb, le-ltb, le-leb, lt-leb, eq-eqb, ne_eqb}
 use lib.ListN.{length, take, drop, length-drop}
-use Rattle.tables.specs.Lists.{filter_by, take_while, splice_at}
+use Rattle.std.specs.List.{take_while, prefix_len, fold}
+use Rattle.tables.specs.Lists.{splice_at}
 use Rattle.ranges.specs.declared.Range.{Range}
 use Rattle.ranges.specs.declared.RangeSet.{RangeSet}
 use Rattle.ranges.specs.declared.Spot.{Spot}
 use Rattle.ranges.specs.State.{Sorted, Good, ranges, set_of}
-use Rattle.ranges.specs.Rules.{ends_below, starts_above, joins, placed, needs_room}
+use Rattle.ranges.specs.Rules.{ends_below, starts_above, joins, hull, hull2, placed, needs_room}
 use Rattle.ranges.specs.Steps.{low_count, starts_within, spot_of}
-use Rattle.tables.proofs.Tables.{cases, front_length}
-use Rattle.ranges.proofs.Good.{ranges_length, ranges_of}
+use Rattle.std.proofs.lemmas.List.Sums.{prefix_len-le-length}
+use Rattle.std.proofs.lemmas.List.Folds.{length-prefix_len}
+use Rattle.tables.proofs.Tables.{cases}
+use Rattle.ranges.proofs.Good.{ranges_length}
+
+-- the hull is a fold
+hull_is : (x : Range) (l : List Range) → hull x l ≡ fold hull2 x l
+hull_is x [] = refl
+hull_is x (r ∷ rs) = hull_is (hull2 x r) rs
+
+-- the spot from its three parts, as the code finds them
+pub spot_is : (x : Range) (l : List Range) (low met : ℕ) (whole : Range) → low ≡ low_count x l → met ≡ prefix_len (starts_within x) (drop low l)
+    → whole ≡ fold hull2 x (take (low + met - low) (drop low l)) → ◌≡◌ {A = Spot} (record { low = low; high = low + met; whole = whole }) (spot_of x l)
+spot_is x l low met whole a b c =
+    let n : low + met - low ≡ met = omega arith in
+    let w : whole ≡ hull x (take met (drop low l)) = c ∙ sym (hull_is x (take (low + met - low) (drop low l))) ∙ ap (λ (k : ℕ). hull x (take k (drop low l))) n in
+    rw (w, b, a)
 
 module _ (x : Range) where
-  none_below : (lo : ℕ) (l : List Range) → Sorted lo l → x.start ≤ lo → filter_by (ends_below x) l ≡ []
+  none_below : (lo : ℕ) (l : List Range) → Sorted lo l → x.start ≤ lo → filter (ends_below x) l ≡ []
   none_below lo [] s h = refl
   none_below lo (r ∷ rs) s h =
       let t : x.start ≤ r.end = omega arith in
       simp (le-ltb _ _ t) (none_below (suc r.end) rs s.2 (omega arith))
 
-  none_join : (lo : ℕ) (l : List Range) → Sorted lo l → x.end < lo → filter_by (joins x) l ≡ []
+  none_join : (lo : ℕ) (l : List Range) → Sorted lo l → x.end < lo → filter (joins x) l ≡ []
   none_join lo [] s h = refl
   none_join lo (r ∷ rs) s h =
       let t : x.end < r.start = omega arith in
       simp (lt-leb _ _ t) (none_join (suc r.end) rs s.2 (omega arith))
 
-  all_above : (lo : ℕ) (l : List Range) → Sorted lo l → x.end < lo → filter_by (starts_above x) l ≡ l
+  all_above : (lo : ℕ) (l : List Range) → Sorted lo l → x.end < lo → filter (starts_above x) l ≡ l
   all_above lo [] s h = refl
   all_above lo (r ∷ rs) s h =
       let t : x.end < r.start = omega arith in
       simp (lt-ltb _ _ t) (ap (λ (l : List Range). r ∷ l) (all_above (suc r.end) rs s.2 (omega arith)))
 
   -- where none ends below x: those that join are the first, those above the others
-  join_head : (lo : ℕ) (r : Range) (rs : List Range) → Sorted lo (r ∷ rs) → x.start ≤ r.end → filter_by (joins x) rs ≡ take_while (starts_within x) rs
-      → filter_by (joins x) (r ∷ rs) ≡ take_while (starts_within x) (r ∷ rs)
+  join_head : (lo : ℕ) (r : Range) (rs : List Range) → Sorted lo (r ∷ rs) → x.start ≤ r.end → filter (joins x) rs ≡ take_while (starts_within x) rs
+      → filter (joins x) (r ∷ rs) ≡ take_while (starts_within x) (r ∷ rs)
   join_head lo r rs s u ih =
       cases x.end r.start
       (λ t. simp (lt-leb _ _ t) (none_join (suc r.end) rs s.2 (omega arith)))
-      (λ t. simp (le-leb _ _ t, le-leb _ _ u) (ap (λ (l : List Range). r ∷ l) ih))
+      (λ t. simp (le-leb _ _ t, le-leb _ _ u, one-add) (ap (λ (l : List Range). r ∷ l) ih))
 
-  join_front : (lo : ℕ) (l : List Range) → Sorted lo l → x.start ≤ lo → filter_by (joins x) l ≡ take_while (starts_within x) l
+  join_front : (lo : ℕ) (l : List Range) → Sorted lo l → x.start ≤ lo → filter (joins x) l ≡ take_while (starts_within x) l
   join_front lo [] s h = refl
   join_front lo (r ∷ rs) s h = join_head lo r rs s (omega arith) (join_front (suc r.end) rs s.2 (omega arith))
 
-  above_front : (lo : ℕ) (l : List Range) → Sorted lo l → filter_by (starts_above x) l ≡ drop (length (take_while (starts_within x) l)) l
+  above_front : (lo : ℕ) (l : List Range) → Sorted lo l → filter (starts_above x) l ≡ drop (prefix_len (starts_within x) l) l
   above_front lo [] s = refl
   above_front lo (r ∷ rs) s =
       cases x.end r.start
       (λ t. simp (lt-ltb _ _ t, lt-leb _ _ t) (ap (λ (l : List Range). r ∷ l) (all_above (suc r.end) rs s.2 (omega arith))))
-      (λ t. simp (le-ltb _ _ t, le-leb _ _ t) (above_front (suc r.end) rs s.2))
+      (λ t. simp (le-ltb _ _ t, le-leb _ _ t, one-add) (above_front (suc r.end) rs s.2))
 
   -- the three parts of a sorted list
-  low_take : (lo : ℕ) (l : List Range) → Sorted lo l → filter_by (ends_below x) l ≡ take (low_count x l) l
+  low_take : (lo : ℕ) (l : List Range) → Sorted lo l → filter (ends_below x) l ≡ take (low_count x l) l
   low_take lo [] s = refl
   low_take lo (r ∷ rs) s =
       cases r.end x.start
-      (λ t. simp (lt-ltb _ _ t) (ap (λ (l : List Range). r ∷ l) (low_take (suc r.end) rs s.2)))
+      (λ t. simp (lt-ltb _ _ t, one-add) (ap (λ (l : List Range). r ∷ l) (low_take (suc r.end) rs s.2)))
       (λ t. simp (le-ltb _ _ t) (none_below (suc r.end) rs s.2 (omega arith)))
 
   module _ (xs : x.start ≤ x.end) where
-    pub joined_spot : (lo : ℕ) (l : List Range) → Sorted lo l → filter_by (joins x) l ≡ take_while (starts_within x) (drop (low_count x l) l)
+    pub joined_spot : (lo : ℕ) (l : List Range) → Sorted lo l → filter (joins x) l ≡ take_while (starts_within x) (drop (low_count x l) l)
     joined_spot lo [] s = refl
     joined_spot lo (r ∷ rs) s =
         cases r.end x.start
-        (λ t. let u : r.start ≤ x.end = omega arith in simp (lt-ltb _ _ t, le-leb _ _ u, lt-leb _ _ t) (joined_spot (suc r.end) rs s.2))
+        (λ t. let u : r.start ≤ x.end = omega arith in simp (lt-ltb _ _ t, le-leb _ _ u, lt-leb _ _ t, one-add) (joined_spot (suc r.end) rs s.2))
         (λ t. simp (le-ltb _ _ t) (join_head lo r rs s t (join_front (suc r.end) rs s.2 (omega arith))))
 
     above_spot : (lo : ℕ) (l : List Range) → Sorted lo l
-        → filter_by (starts_above x) l ≡ drop (low_count x l + length (take_while (starts_within x) (drop (low_count x l) l))) l
+        → filter (starts_above x) l ≡ drop (low_count x l + prefix_len (starts_within x) (drop (low_count x l) l)) l
     above_spot lo [] s = refl
     above_spot lo (r ∷ rs) s =
         cases r.end x.start
-        (λ t. let u : r.start ≤ x.end = omega arith in simp (lt-ltb _ _ t, le-ltb _ _ u, suc-add) (above_spot (suc r.end) rs s.2))
+        (λ t. let u : r.start ≤ x.end = omega arith in simp (lt-ltb _ _ t, le-ltb _ _ u, one-add, suc-add) (above_spot (suc r.end) rs s.2))
         (λ t. simp (le-ltb _ _ t, zero-add) (above_front lo (r ∷ rs) s))
 
     pub placed_spot : (lo : ℕ) (l : List Range) → Sorted lo l → placed x l ≡ splice_at (spot_of x l).low (spot_of x l).high (spot_of x l).whole l
@@ -86,19 +104,19 @@ module _ (x : Range) where
     -- the spot lies in the list
     pub spot_fits : (l : List Range) → ((spot_of x l).low ≤ (spot_of x l).high) × ((spot_of x l).high ≤ length l)
     spot_fits l =
-        let a = front_length (ends_below x) l in
-        let b = front_length (starts_within x) (drop (low_count x l) l) in
+        let a = prefix_len-le-length (ends_below x) l in
+        let b = prefix_len-le-length (starts_within x) (drop (low_count x l) l) in
         (omega arith, omega (arith, a, simp length-drop at b))
 
     -- what the rule comes to, by what the spot shows
     module _ (cap : ℕ) (l : List Range) (s : Sorted 0 l) where
-      count_joined : (spot_of x l).high - (spot_of x l).low ≡ length (filter_by (joins x) l)
-      count_joined = omega (arith, ap length (joined_spot 0 l s))
+      count_joined : (spot_of x l).high - (spot_of x l).low ≡ length (filter (joins x) l)
+      count_joined = omega (arith, ap length (joined_spot 0 l s), length-prefix_len (starts_within x) (drop (low_count x l) l))
 
       -- the test of the rule, by what the spot shows
       pub full_there : (spot_of x l).low ≡ (spot_of x l).high → cap ≤ length l → needs_room cap x l ≡ true
       full_there e h =
-          let z : length (filter_by (joins x) l) ≡ 0 = omega (arith, count_joined) in
+          let z : length (filter (joins x) l) ≡ 0 = omega (arith, count_joined) in
           simp (eq-eqb _ _ z, le-leb _ _ h)
 
       pub room_there : length l < cap → needs_room cap x l ≡ false
@@ -106,7 +124,7 @@ module _ (x : Range) where
 
       pub joins_there : ((spot_of x l).low ≡ (spot_of x l).high → ⊥) → needs_room cap x l ≡ false
       joins_there e =
-          let z : length (filter_by (joins x) l) ≡ 0 → ⊥ = λ q. e (omega (arith, q, count_joined, spot_fits l)) in
+          let z : length (filter (joins x) l) ≡ 0 → ⊥ = λ q. e (omega (arith, q, count_joined, spot_fits l)) in
           simp (ne_eqb _ 0 z)
 
 -- the same of sets: s with x at its spot t
@@ -133,17 +151,3 @@ module _ (s : RangeSet) (g : Good s) (x : Range) (xs : x.start ≤ x.end) (t : S
       cases t.low t.high
       (λ lt. (spot_room.0, spot_room.1, omega (arith, g.small, g.room)))
       (λ le. absurd (h (omega (arith, spot_room))))
-
--- the set without its lowest range has room for x
-module _ (s : RangeSet) (g : Good s) (x : Range) (xs : x.start ≤ x.end) (full : s.capacity ≤ s.count) where
-  pub rest_room : (t : RangeSet) → t ≡ set_of s.capacity (drop 1 (ranges s)) → t.count < t.capacity
-  rest_room t e =
-      let n : t.count ≡ s.count - 1 = ap (λ (t : RangeSet). t.count) e ∙ simp (length-drop, ranges_length s g) in
-      let m : t.capacity ≡ s.capacity = ap (λ (t : RangeSet). t.capacity) e in
-      omega (arith, n, m, g.some, g.room)
-
-  pub rest_placed : (t r : RangeSet) → t ≡ set_of s.capacity (drop 1 (ranges s)) → r ≡ set_of t.capacity (placed x (ranges t))
-      → r ≡ set_of s.capacity (placed x (drop 1 (ranges s)))
-  rest_placed t r e f =
-      f ∙ ap (λ (t : RangeSet). set_of t.capacity (placed x (ranges t))) e
-      ∙ ap (λ (m : List Range). set_of s.capacity (placed x m)) (ranges_of s.capacity (drop 1 (ranges s)))

@@ -3,6 +3,7 @@
 --   placed_new    the numbers of x
 --   placed_old    the numbers that were in the set
 --   placed_only   no others
+use Rattle.std.specs.List.{filter}
 use mathlib.Core.Path.{◌≡◌, refl}
 use mathlib.Core.Logic.{◌⊎◌, inl, inr}
 use mathlib.Core.Bool.{Bool, true, ◌&&◌}
@@ -11,7 +12,6 @@ use Prim.Native.Nat.{ℕ, ◌≤◌, ◌<◌}
 use native.Mathlib.Omega.{arith}
 use lib.Dec.{ltb, leb}
 use borrow.Author.Tests.{leb-true, ltb-true, le-leb, lt-ltb}
-use Rattle.tables.specs.Lists.{filter_by}
 use Rattle.tables.proofs.Tables.{cases, by_test, cond_elim}
 use Rattle.tables.proofs.Tests.{either, and_true}
 use Rattle.ranges.specs.declared.Range.{Range}
@@ -42,7 +42,7 @@ abbrev Meets : Range → List Range → Type 0
 Meets x [] = Unit {0}
 Meets x (r ∷ rs) = (r.start ≤ x.end) × (x.start ≤ r.end) × Meets x rs
 
-joined_meets : (x : Range) (l : List Range) → Meets x (filter_by (joins x) l)
+joined_meets : (x : Range) (l : List Range) → Meets x (filter (joins x) l)
 joined_meets x [] = tt
 joined_meets x (r ∷ rs) =
     cond_elim (Meets x) (joins x r)
@@ -65,12 +65,12 @@ module _ (v : ℕ) where
   in_either (r ∷ rs) m (inl h) = inl (inl h)
   in_either (r ∷ rs) m (inr h) = either (in_either rs m h) (λ x. inl (inr x)) (λ x. inr x)
 
-  in_filter : (p : Range → Bool) (l : List Range) → In v (filter_by p l) → In v l
+  in_filter : (p : Range → Bool) (l : List Range) → In v (filter p l) → In v l
   in_filter p [] h = h
   in_filter p (r ∷ rs) h =
       by_test (p r)
-      (λ t. let k : In v (r ∷ filter_by p rs) = simp t at h in either k (λ x. inl x) (λ x. inr (in_filter p rs x)))
-      (λ t. let k : In v (filter_by p rs) = simp t at h in inr (in_filter p rs k))
+      (λ t. let k : In v (r ∷ filter p rs) = simp t at h in either k (λ x. inl x) (λ x. inr (in_filter p rs x)))
+      (λ t. let k : In v (filter p rs) = simp t at h in inr (in_filter p rs k))
 
   -- a joined range holds what its parts held
   hull_first : (x : Range) (l : List Range) → Within v x → Within v (hull x l)
@@ -92,14 +92,14 @@ module _ (v : ℕ) where
       (λ t. cases v y.end (λ u. inl (t, u)) (λ u. inr (inl (omega arith, omega arith)))))
       (λ w. inr (inr w))
 
-  filter_here : (p : Range → Bool) (r : Range) (rs : List Range) → p r ≡ true → Within v r → In v (filter_by p (r ∷ rs))
+  filter_here : (p : Range → Bool) (r : Range) (rs : List Range) → p r ≡ true → Within v r → In v (filter p (r ∷ rs))
   filter_here p r rs t h = simp t (inl h)
 
-  filter_more : (p : Range → Bool) (r : Range) (rs : List Range) → In v (filter_by p rs) → In v (filter_by p (r ∷ rs))
+  filter_more : (p : Range → Bool) (r : Range) (rs : List Range) → In v (filter p rs) → In v (filter p (r ∷ rs))
   filter_more p r rs h = cond_elim (In v) (p r) (λ _. inr h) (λ _. h)
 
   -- each range ends below x, starts above it, or is joined
-  in_part_lem : (x : Range) (l : List Range) → In v l → In v (filter_by (ends_below x) l) ⊎ (In v (filter_by (joins x) l) ⊎ In v (filter_by (starts_above x) l))
+  in_part_lem : (x : Range) (l : List Range) → In v l → In v (filter (ends_below x) l) ⊎ (In v (filter (joins x) l) ⊎ In v (filter (starts_above x) l))
   in_part_lem x [] h = absurd h
   in_part_lem x (r ∷ rs) (inl h) =
       cases r.end x.start
@@ -113,29 +113,29 @@ module _ (v : ℕ) where
 
 module _ (x : Range) (l : List Range) (v : ℕ) where
   abbrev below : List Range
-  below = filter_by (ends_below x) l
+  below = filter (ends_below x) l
 
   abbrev above : List Range
-  above = filter_by (starts_above x) l
+  above = filter (starts_above x) l
 
   abbrev whole : Range
-  whole = hull x (filter_by (joins x) l)
+  whole = hull x (filter (joins x) l)
 
   pub placed_new : x.start ≤ v → v < x.end → member_of v (placed x l) ≡ true
-  placed_new a b = in_member v (placed x l) (in_right v below (whole ∷ above) (inl (hull_first v x (filter_by (joins x) l) (a, b))))
+  placed_new a b = in_member v (placed x l) (in_right v below (whole ∷ above) (inl (hull_first v x (filter (joins x) l) (a, b))))
 
   pub placed_old : member_of v l ≡ true → member_of v (placed x l) ≡ true
   placed_old e =
       in_member v (placed x l)
       (either (in_part_lem v x l (member_in v l e)) (λ h. in_left v below (whole ∷ above) h)
-      (λ h. in_right v below (whole ∷ above) (either h (λ k. inl (hull_rest v x (filter_by (joins x) l) k)) (λ k. inr k))))
+      (λ h. in_right v below (whole ∷ above) (either h (λ k. inl (hull_rest v x (filter (joins x) l) k)) (λ k. inr k))))
 
   pub placed_only : member_of v (placed x l) ≡ true → ((x.start ≤ v) × (v < x.end)) ⊎ (member_of v l ≡ true)
   placed_only e =
       either (in_either v below (whole ∷ above) (member_in v (placed x l) e))
       (λ h. inr (in_member v l (in_filter v (ends_below x) l h)))
       (λ h. either h
-      (λ k. either (hull_only v x x (filter_by (joins x) l) (joined_meets x l) (omega arith) (omega arith) k)
+      (λ k. either (hull_only v x x (filter (joins x) l) (joined_meets x l) (omega arith) (omega arith) k)
       (λ w. inl w)
       (λ w. inr (in_member v l (in_filter v (joins x) l w))))
       (λ k. inr (in_member v l (in_filter v (starts_above x) l k))))

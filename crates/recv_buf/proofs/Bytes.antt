@@ -10,17 +10,17 @@ use Prim.Native.Nat.{ℕ, suc, ◌+◌, ◌-◌, ◌%◌, ◌≤◌, ◌<◌}
 use native.Mathlib.Nat.{add-zero, mod-lt}
 use native.Mathlib.Omega.{arith}
 use native.Mathlib.Decide.{ℕ_discrete}
+use borrow.Author.Tests.{leb-true, le-leb, not-true}
 use lib.Dec.{leb}
 use lib.ListN.{length, get_or, length-set}
 use lib.Seq.{get_or-set_same, get_or-set_other}
-use borrow.Author.Tests.{leb-true, le-leb, not-true}
 use Rattle.tables.proofs.Tables.{cond_elim}
+use Rattle.tables.proofs.Tests.{and_true}
 use Rattle.arena.specs.Rules.{byte_at}
 use Rattle.arena.proofs.Places.{window}
 use Rattle.recv_buf.specs.State.{Recv, Held}
 use Rattle.recv_buf.specs.Rules.{holds, kept_new}
 use Rattle.recv_buf.proofs.Lists.{holds_not, held_not}
-use Rattle.tables.proofs.Tests.{and_true}
 
 -- the byte b for offset o is newly kept, or ignored
 abbrev one : Recv → List ℕ → ℕ → ℕ → List ℕ

@@ -5,8 +5,8 @@ use mathlib.Core.Bool.{Bool, true, false, cond, not, ◌&&◌}
 use mathlib.Core.List.{List}
 use Prim.Native.Nat.{ℕ, ◌+◌, ◌≤◌, ◌<◌, max}
 use native.Mathlib.Omega.{arith}
-use lib.Dec.{eqb}
 use borrow.Author.Tests.{eqb-true}
+use lib.Dec.{eqb}
 use Rattle.tables.proofs.Tables.{cond_elim}
 use Rattle.tables.proofs.Tests.{either, and_true}
 use Rattle.refusal.specs.Rules.{known, fin_with}

@@ -1,18 +1,39 @@
 -- What a good receive buffer's struct is: the laws by which the code and its callers go. Assumes nothing.
+use Rattle.std.specs.List.{All}
+use Rattle.std.proofs.lemmas.List.{drop_more, get_or_default}
 use mathlib.Core.Path.{◌≡◌, sym, ap, ◌∙◌}
-use mathlib.Core.List.{List, [], ◌∷◌}
+use mathlib.Core.List.{List, ◌∷◌}
 use Prim.Native.Nat.{ℕ, ◌+◌, ◌≤◌, ◌<◌}
 use native.Mathlib.Omega.{arith}
 use lib.ListN.{length, drop, get_or}
 use Rattle.tables.specs.Lists.{Table, table_of}
 use Rattle.tables.proofs.Tables as tables
+use Rattle.refusal.specs.Rules.{M}
 use Rattle.range_buf.specs.declared.RangeBuf.{RangeBuf}
-use Rattle.range_buf.specs.Rules.{zero_buf}
 use Rattle.range_buf.specs.State.{Good as GoodChunk}
+use Rattle.range_buf.specs.Rules.{zero_buf}
 use Rattle.flowcontrol.specs.State.{Good as GoodFlow}
 use Rattle.recv_buf.specs.declared.RecvBuf.{RecvBuf}
 use Rattle.recv_buf.specs.State.{Recv, view_of, buf_of, Chain, Within, GoodRecv, Good}
-use Rattle.recv_buf.proofs.Lists.{chain_drop, within_drop}
+use Rattle.recv_buf.specs.Steps.{Apart}
+use Rattle.recv_buf.proofs.Lists.{chain_drop, within_drop, within_weaken}
+
+-- ---- a list of chunks, sorted and apart
+
+module _ (lo : ℕ) (cs : List RangeBuf) (a : Apart lo cs) where
+  -- the chunks from i on: one, and the others lie behind it
+  module _ (i : ℕ) (lt : i < length cs) where
+    pub chain_at : Chain lo (get_or cs i zero_buf ∷ drop (i + 1) cs)
+    chain_at = rw (drop_more cs i zero_buf lt) at (chain_drop i lo cs a.chain)
+
+    pub within_at : Within M (get_or cs i zero_buf ∷ drop (i + 1) cs)
+    within_at = rw (drop_more cs i zero_buf lt) at (within_drop i M cs a.within)
+
+    pub chunk_good : GoodChunk (get_or cs i zero_buf)
+    chunk_good = record { used_in = chain_at.1; end_in = within_at.0 }
+
+  pub all_good : All GoodChunk cs
+  all_good i d lt = rw (get_or_default cs i d zero_buf lt) (chunk_good i lt)
 
 -- ---- the struct of numbers and lists, and back
 
@@ -62,33 +83,9 @@ module _ (b : RecvBuf) (g : Good b) where
   unfolding buf_of
   table = record { few = few; clear = ap (λ (x : RecvBuf). x.«data») g.whole }
 
-  pub slots : length b.«data» ≡ 64
-  slots = tables.slots zero_buf b.count b.«data» table
-
-  -- what is left of the chunks at i: the entry at i, and what is left at i + 1; nothing, at their end
-  pub next : (i : ℕ) → i < b.count → drop i (view_of b).chunks ≡ get_or b.«data» i zero_buf ∷ drop (i + 1) (view_of b).chunks
-  next = tables.next zero_buf b.count b.«data» table
-
-  pub done : (i : ℕ) → b.count ≤ i → drop i (view_of b).chunks ≡ []
-  done = tables.done zero_buf b.count b.«data» table
-
-  pub entry : (i : ℕ) → i < b.count → get_or (view_of b).chunks i zero_buf ≡ get_or b.«data» i zero_buf
-  entry = tables.entry zero_buf b.count b.«data» table
-
-  -- the chunks from i on: the entry is whole, and the others lie behind it
-  module _ (i : ℕ) (lt : i < b.count) where
-    pub chain_at : Chain b.off (get_or b.«data» i zero_buf ∷ drop (i + 1) (view_of b).chunks)
-    chain_at =
-        let k : Chain b.off (drop i (view_of b).chunks) = chain_drop i b.off (view_of b).chunks g.facts.chain in
-        rw (next i lt) at k
-
-    pub within_at : Within b.len (get_or b.«data» i zero_buf ∷ drop (i + 1) (view_of b).chunks)
-    within_at =
-        let k : Within b.len (drop i (view_of b).chunks) = within_drop i b.len (view_of b).chunks g.facts.within in
-        rw (next i lt) at k
-
-    pub chunk_good : GoodChunk (get_or b.«data» i zero_buf)
-    chunk_good = record { used_in = chain_at.1; end_in = omega (arith, within_at.0, g.facts.len_in) }
+  -- the chunks are sorted and apart, from off on, and end at or below M
+  pub apart : Apart b.off (view_of b).chunks
+  apart = record { chain = g.facts.chain; within = within_weaken b.len M (view_of b).chunks g.facts.len_in g.facts.within }
 
   pub flow_good : GoodFlow b.flow_control
   flow_good = g.facts.flow_good
@@ -98,3 +95,7 @@ module _ (b : RecvBuf) (g : Good b) where
       → ◌≡◌ {A = RecvBuf} (record { «data» = b.«data»; count = b.count; off = r.off; len = r.len; flow_control = r.flow; fin_off = r.fin; error = r.error; drain = r.drain; arena_len = r.room }) (buf_of r)
   same_table r e =
       made r b.«data» b.count (table.clear ∙ ap (table_of zero_buf) (sym e)) (sym chunks_length ∙ ap length (sym e))
+
+-- ---- what `chunks` says of a buffer's chunks
+
+pub ruleset chunks = (few, chunks_length, apart, all_good)

@@ -1,5 +1,6 @@
 -- The arena after a frame: the bytes that are new are kept run by run. Assumes nothing.
-use mathlib.Core.Path.{◌≡◌, refl, sym, ap, ◌∙◌}
+use Rattle.std.proofs.lemmas.List.{drop_more}
+use mathlib.Core.Path.{◌≡◌, refl, sym, ◌∙◌}
 use mathlib.Core.Bool.{Bool, true, false, not, ◌&&◌, ◌||◌, and-false}
 use mathlib.Core.List.{List, [], ◌∷◌}
 use Prim.Native.Nat.{ℕ, zero, suc, ◌+◌, ◌-◌, ◌%◌, ◌≤◌, ◌<◌, min, max}
@@ -11,13 +12,13 @@ use lib.ListN.{length, take, drop, get_or, set, drop_of_length-le}
 use lib.Seq.{drop-drop}
 use Rattle.tables.proofs.Tables.{cases}
 use Rattle.arena.specs.Rules.{kept}
-use Rattle.arena.proofs.Laws.{length_kept, kept_none}
+use Rattle.arena.proofs.Laws.{kept_none}
 use Rattle.range_buf.specs.declared.RangeBuf.{RangeBuf}
 use Rattle.range_buf.specs.Rules.{start, end, zero_buf}
 use Rattle.recv_buf.specs.declared.RecvBuf.{RecvBuf}
 use Rattle.recv_buf.specs.State.{Recv, view_of, Chain, Good}
 use Rattle.recv_buf.specs.Rules.{holds, kept_new}
-use Rattle.recv_buf.proofs.Good.{next, done, chain_at}
+use Rattle.recv_buf.proofs.Good.{chunk_good}
 use Rattle.recv_buf.proofs.Lists.{held_not, chain_held, within_held}
 
 -- the byte of offset q is new
@@ -65,123 +66,110 @@ module _ (c : RangeBuf) (cs : List RangeBuf) (q : ℕ) where
       go true = rw (le-ltb q (end c) h)
       go false = refl
 
--- ---- a run of the input
+-- ---- run by run
 
-pub run_none : (ar : List ℕ) (lo hi : ℕ) (xs : List ℕ) → hi ≤ lo → ar ≡ kept ar lo (take (hi - lo) xs)
-run_none ar lo hi xs h =
-    let z : hi - lo ≡ 0 = omega arith in
-    rw z (sym (kept_none ar lo))
+module _ (s : ℕ) (input : List ℕ) where
+  -- the runs before each of the chunks are kept, from lo on, and the one behind them all
+  abbrev pub run_by_run : List RangeBuf → ℕ → List ℕ → List ℕ
+  run_by_run [] lo ar = kept ar lo (take (s + length input - lo) (drop (lo - s) input))
+  run_by_run (c ∷ cs) lo ar = run_by_run cs (max lo (end c)) (kept ar lo (take (min (start c) (s + length input) - lo) (drop (lo - s) input)))
 
+  pub runs_end : (cs : List RangeBuf) (i lo : ℕ) (ar : List ℕ) → length cs ≤ i
+      → run_by_run (drop i cs) lo ar ≡ kept ar lo (take (s + length input - lo) (drop (lo - s) input))
+  runs_end cs i lo ar h = rw (drop_of_length-le cs h)
+
+  pub runs_more : (cs : List RangeBuf) (i lo : ℕ) (ar : List ℕ) → i < length cs
+      → run_by_run (drop i cs) lo ar
+      ≡ run_by_run (drop (i + 1) cs) (max lo (end (get_or cs i zero_buf))) (kept ar lo (take (min (start (get_or cs i zero_buf)) (s + length input) - lo) (drop (lo - s) input)))
+  runs_more cs i lo ar h = rw (drop_more cs i zero_buf h)
+
+  module _ (r : Recv) where
+    -- the bytes up to hi, of which no chunk holds one
+    kept_to : (ar : List ℕ) (lo hi : ℕ) → s ≤ lo → r.off ≤ lo → ((q : ℕ) → lo ≤ q → q < hi → holds r.chunks q ≡ false)
+        → kept_new r (kept ar lo (take (hi - lo) (drop (lo - s) input))) (max lo hi) (drop (max lo hi - s) input) ≡ kept_new r ar lo (drop (lo - s) input)
+    kept_to ar lo hi a b h =
+        let e : lo + (hi - lo) ≡ max lo hi = omega arith in
+        let d : lo - s + (hi - lo) ≡ max lo hi - s = omega (arith, a) in
+        sym (new_run r ar lo (hi - lo) (drop (lo - s) input)
+        (λ q x y. rw (le-leb r.off q (omega (arith, b)), h q x (omega arith)))
+        ∙ rw (e, drop-drop (hi - lo) (lo - s) input, d))
+
+    -- what is new is what lies in the runs
+    kept_runs : (cs : List RangeBuf) (low lo : ℕ) (ar : List ℕ) → Chain low cs → s ≤ lo → r.off ≤ lo → ((q : ℕ) → lo ≤ q → holds r.chunks q ≡ holds cs q)
+        → run_by_run cs lo ar ≡ kept_new r ar lo (drop (lo - s) input)
+    kept_runs [] low lo ar k a b h =
+        let z : drop (max lo (s + length input) - s) input ≡ [] = drop_of_length-le input {i = max lo (s + length input) - s} (omega arith) in
+        rw z at (kept_to ar lo (s + length input) a b (λ q x y. h q x))
+    kept_runs (c ∷ cs) low lo ar k a b h =
+        let hi = min (start c) (s + length input) in
+        let ar' : List ℕ = kept ar lo (take (hi - lo) (drop (lo - s) input)) in
+        let first = kept_to ar lo hi a b (λ q y z. h q y ∙ holds_before c cs q k.2 k.1 (omega arith)) in
+        let past : kept_new r ar' (max lo (end c)) (drop (max lo (end c) - s) input) ≡ kept_new r ar' (max lo hi) (drop (max lo hi - s) input) =
+        cases (s + length input) (start c)
+        (λ l.
+        let x : drop (max lo hi - s) input ≡ [] = drop_of_length-le input {i = max lo hi - s} (past_end s lo hi (length input) (start c) refl l) in
+        let y : drop (max lo (end c) - s) input ≡ [] = drop_of_length-le input {i = max lo (end c) - s} (past_all s lo (start c) (end c) (length input) l (omega (arith, k.1))) in
+        rw (x, y))
+        (λ l.
+        let m : hi ≡ start c = omega arith in
+        let e : max lo hi + (max lo (end c) - max lo hi) ≡ max lo (end c) = over lo hi (end c) (omega (arith, k.1)) in
+        let d : max lo hi - s + (max lo (end c) - max lo hi) ≡ max lo (end c) - s = over_from s lo hi (end c) a (omega (arith, k.1)) in
+        sym (new_skip r ar' (max lo hi) (max lo (end c) - max lo hi) (drop (max lo hi - s) input)
+        (λ q y z.
+        let w : holds r.chunks q ≡ true = h q (omega arith) ∙ holds_in c cs q (omega arith) (below_end lo hi (end c) q y z (omega (arith, k.1))) in
+        rw w (and-false (leb r.off q)))
+        ∙ rw (e, drop-drop (max lo (end c) - max lo hi) (max lo hi - s) input, d))) in
+        kept_runs cs (end c) (max lo (end c)) ar' k.2 (omega arith) (omega arith) (λ q x. h q (omega arith) ∙ holds_behind c cs q (omega arith))
+        ∙ past
+        ∙ first
+      where
+        past_end : (s lo hi n st : ℕ) → hi ≡ min st (s + n) → s + n < st → n ≤ max lo hi - s
+        past_end s lo hi n st e l = omega arith
+
+        past_all : (s lo st en n : ℕ) → s + n < st → st ≤ en → n ≤ max lo en - s
+        past_all s lo st en n l h = omega arith
+
+        over : (lo hi en : ℕ) → hi ≤ en → max lo hi + (max lo en - max lo hi) ≡ max lo en
+        over lo hi en h = omega arith
+
+        over_from : (s lo hi en : ℕ) → s ≤ lo → hi ≤ en → max lo hi - s + (max lo en - max lo hi) ≡ max lo en - s
+        over_from s lo hi en a h = omega arith
+
+        below_end : (lo hi en q : ℕ) → max lo hi ≤ q → q < max lo hi + (max lo en - max lo hi) → hi ≤ en → q < en
+        below_end lo hi en q a l h = omega arith
+
+-- ---- of a buffer
+
+module _ (b : RecvBuf) (g : Good b) (s : ℕ) (input ar : List ℕ) where
+  -- what lies below off is ignored
+  from_off : kept_new (view_of b) ar (max s b.off) (drop (max s b.off - s) input) ≡ kept_new (view_of b) ar s input
+  from_off =
+      let e : s + (max s b.off - s) ≡ max s b.off = omega arith in
+      sym (new_skip (view_of b) ar s (max s b.off - s) input (λ q x y. rw (lt-leb b.off q (omega arith))) ∙ rw e)
+
+  pub runs_whole : run_by_run s input (view_of b).chunks (max s b.off) ar ≡ kept_new (view_of b) ar s input
+  runs_whole = kept_runs s input (view_of b) (view_of b).chunks b.off (max s b.off) ar g.facts.chain (omega arith) (omega arith) (λ q x. refl) ∙ from_off
+
+  -- bytes behind all that was seen are one run
+  pub runs_behind : b.len ≤ max s b.off → kept ar (max s b.off) (take (s + length input - max s b.off) (drop (max s b.off - s) input)) ≡ kept_new (view_of b) ar s input
+  runs_behind h =
+      kept_runs s input (view_of b) [] b.off (max s b.off) ar tt (omega arith) (omega arith)
+      (λ q x. held_not (view_of b).chunks q (λ y. omega (arith, within_held b.len (view_of b).chunks q g.facts.within y)))
+      ∙ from_off
+
+-- one run of an input
 pub run_part : (s lo hi : ℕ) (xs : List ℕ) → s ≤ lo → take (hi - s - (lo - s)) (drop (lo - s) xs) ≡ take (hi - lo) (drop (lo - s) xs)
 run_part s lo hi xs h =
     let z : hi - s - (lo - s) ≡ hi - lo = omega arith in
     rw z
 
--- ---- the loop
+pub run_none : (ar : List ℕ) (lo hi : ℕ) (xs : List ℕ) → hi ≤ lo → kept ar lo (take (hi - lo) xs) ≡ ar
+run_none ar lo hi xs h =
+    let z : hi - lo ≡ 0 = omega arith in
+    rw z (kept_none ar lo)
 
--- the runs before the first i chunks are kept, up to lo: to keep what is new from there on gives the whole
-pub record Keeping (b : RecvBuf) (s : ℕ) (input ar₀ ar : List ℕ) (lo i : ℕ) : Type 0 where
-  pub low : i ≤ b.count
-  pub above : s ≤ lo
-  pub from_off : b.off ≤ lo
-  pub size : length ar ≡ length ar₀
-  pub others : (q : ℕ) → lo ≤ q → holds (view_of b).chunks q ≡ holds (drop i (view_of b).chunks) q
-  pub rest : kept_new (view_of b) ar lo (drop (lo - s) input) ≡ kept_new (view_of b) ar₀ s input
+-- ---- for the functions that keep the bytes
 
-module _ (b : RecvBuf) (g : Good b) (s : ℕ) (input ar₀ : List ℕ) where
-  pub keeps_begin : Keeping b s input ar₀ ar₀ (max s b.off) 0
-  keeps_begin =
-      let e : s + (max s b.off - s) ≡ max s b.off = omega arith in
-      record {
-        low = omega arith;
-        above = omega arith;
-        from_off = omega arith;
-        size = refl;
-        others = λ q h. refl;
-        rest =
-            sym (new_skip (view_of b) ar₀ s (max s b.off - s) input
-            (λ q x y. rw (lt-leb b.off q (omega arith)))
-            ∙ rw e);
-      }
+pub ruleset one_run = (run_part, run_none)
 
-  -- behind all chunks
-  pub keeps_behind : b.len ≤ max s b.off → Keeping b s input ar₀ ar₀ (max s b.off) b.count
-  keeps_behind h = record {
-    low = omega arith;
-    above = omega arith;
-    from_off = omega arith;
-    size = refl;
-    others = λ q x.
-        held_not (view_of b).chunks q (λ y. omega (arith, within_held b.len (view_of b).chunks q g.facts.within y))
-        ∙ sym (ap (λ (l : List RangeBuf). holds l q) (done b g b.count (omega arith)));
-    rest = keeps_begin.rest;
-  }
-
-  module _ (ar : List ℕ) (lo i : ℕ) (f : Keeping b s input ar₀ ar lo i) where
-    -- the bytes up to hi that no chunk holds
-    kept_to : (hi : ℕ) → ((q : ℕ) → lo ≤ q → q < hi → holds (drop i (view_of b).chunks) q ≡ false)
-        → kept_new (view_of b) (kept ar lo (take (hi - lo) (drop (lo - s) input))) (max lo hi) (drop (max lo hi - s) input) ≡ kept_new (view_of b) ar₀ s input
-    kept_to hi h =
-        let e : lo + (hi - lo) ≡ max lo hi = omega arith in
-        let d : lo - s + (hi - lo) ≡ max lo hi - s = omega (arith, f.above) in
-        sym (new_run (view_of b) ar lo (hi - lo) (drop (lo - s) input)
-        (λ q x y. rw (le-leb b.off q (omega (arith, f.from_off)), f.others q x, h q x (omega arith)))
-        ∙ rw (e, drop-drop (hi - lo) (lo - s) input, d))
-        ∙ f.rest
-
-    pub keeps_end : b.count ≤ i → kept ar lo (take (s + length input - lo) (drop (lo - s) input)) ≡ kept_new (view_of b) ar₀ s input
-    keeps_end h =
-        let z : drop (max lo (s + length input) - s) input ≡ [] = drop_of_length-le input {i = max lo (s + length input) - s} (omega arith) in
-        let k = kept_to (s + length input) (λ q x y. ap (λ (l : List RangeBuf). holds l q) (done b g i h)) in
-        rw z at k
-
-    module _ (lt : i < b.count) where
-      pub keeps_more : (hi : ℕ) → hi ≡ min (start (get_or b.«data» i zero_buf)) (s + length input)
-          → Keeping b s input ar₀ (kept ar lo (take (hi - lo) (drop (lo - s) input))) (max lo (end (get_or b.«data» i zero_buf))) (i + 1)
-      keeps_more hi is =
-          let c = get_or b.«data» i zero_buf in
-          let cs = drop (i + 1) (view_of b).chunks in
-          let x = next b g i lt in
-          let u = (chain_at b g i lt).1 in
-          let k = (chain_at b g i lt).2 in
-          let ar' : List ℕ = kept ar lo (take (hi - lo) (drop (lo - s) input)) in
-          let top : hi ≤ start c = omega (arith, is) in
-          let first = kept_to hi (λ q y z. ap (λ (l : List RangeBuf). holds l q) x ∙ holds_before c cs q k u (omega arith)) in
-          let past : kept_new (view_of b) ar' (max lo (end c)) (drop (max lo (end c) - s) input) ≡ kept_new (view_of b) ar' (max lo hi) (drop (max lo hi - s) input) =
-          cases (s + length input) (start c)
-          (λ l.
-          let a : drop (max lo hi - s) input ≡ [] = drop_of_length-le input {i = max lo hi - s} (past_end s lo hi (length input) (start c) is l) in
-          let d : drop (max lo (end c) - s) input ≡ [] = drop_of_length-le input {i = max lo (end c) - s} (past_all s lo (start c) (end c) (length input) l (omega arith)) in
-          rw (a, d))
-          (λ l.
-          let m : hi ≡ start c = omega (arith, is) in
-          let e : max lo hi + (max lo (end c) - max lo hi) ≡ max lo (end c) = over lo hi (end c) (omega arith) in
-          let d : max lo hi - s + (max lo (end c) - max lo hi) ≡ max lo (end c) - s = over_from s lo hi (end c) f.above (omega arith) in
-          sym (new_skip (view_of b) ar' (max lo hi) (max lo (end c) - max lo hi) (drop (max lo hi - s) input)
-          (λ q y z.
-          let w : holds (view_of b).chunks q ≡ true = f.others q (omega arith) ∙ ap (λ (l : List RangeBuf). holds l q) x ∙ holds_in c cs q (omega arith) (below_end lo hi (end c) q y z (omega arith)) in
-          rw w (and-false (leb b.off q)))
-          ∙ rw (e, drop-drop (max lo (end c) - max lo hi) (max lo hi - s) input, d))) in
-          record {
-            low = omega (arith, lt);
-            above = omega (arith, f.above);
-            from_off = omega (arith, f.from_off);
-            size = length_kept ar lo (take (hi - lo) (drop (lo - s) input)) ∙ f.size;
-            others = λ q h. f.others q (omega arith) ∙ ap (λ (l : List RangeBuf). holds l q) x ∙ holds_behind c cs q (omega arith);
-            rest = past ∙ first;
-          }
-        where
-          past_end : (s lo hi n st : ℕ) → hi ≡ min st (s + n) → s + n < st → n ≤ max lo hi - s
-          past_end s lo hi n st e l = omega arith
-
-          past_all : (s lo st en n : ℕ) → s + n < st → st ≤ en → n ≤ max lo en - s
-          past_all s lo st en n l h = omega arith
-
-          over : (lo hi en : ℕ) → hi ≤ en → max lo hi + (max lo en - max lo hi) ≡ max lo en
-          over lo hi en h = omega arith
-
-          over_from : (s lo hi en : ℕ) → s ≤ lo → hi ≤ en → max lo hi - s + (max lo en - max lo hi) ≡ max lo en - s
-          over_from s lo hi en a h = omega arith
-
-          below_end : (lo hi en q : ℕ) → max lo hi ≤ q → q < max lo hi + (max lo en - max lo hi) → hi ≤ en → q < en
-          below_end lo hi en q a l h = omega arith
+pub ruleset runs = (chunk_good, runs_end, runs_more, runs_whole, runs_behind)

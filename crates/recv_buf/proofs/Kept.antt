@@ -1,37 +1,34 @@
 -- Every receive buffer that came from creation or a call is good: what a caller needs to make the next call. Assumes nothing.
 --
 -- First over numbers and lists, each effect where the call is accepted (`new_good` to `flow_good`); then each contract's buffer, accepted or refused.
+use Rattle.std.specs.Prelude.{Ok, Err, Option, Some, None, ⊤}
 use mathlib.Core.Path.{◌≡◌, refl, sym, ap, subst, ◌∙◌}
 use mathlib.Core.Bool.{Bool, true, false, cond, not, ◌&&◌, ◌||◌, false≢true}
 use mathlib.Core.List.{List, []}
 use Prim.Native.Nat.{ℕ, ◌+◌, ◌-◌, ◌≤◌, ◌<◌, max}
 use native.Mathlib.Nat.{add-zero}
 use native.Mathlib.Omega.{arith}
+use borrow.Author.Tests.{ltb-false, eqb-true, not-false}
 use lib.Dec.{ltb, eqb}
 use lib.ListN.{length}
-use borrow.Author.Tests.{ltb-false, eqb-true, not-false}
 use Rattle.tables.proofs.Tables.{cond_elim}
-use Rattle.refusal.specs.Rules.{M, known, fin_with}
-use Rattle.refusal.specs.declared.Answer.TheVariants.{Done, Refused}
+use Rattle.tables.proofs.Tests.{either, clash, and_true, and-false, or_false}
 use Rattle.refusal.specs.declared.Refusal.TheVariants.{Offset, FinalSize, FlowControl as OverLimit, NoRoom, TableFull, Done as NothingReady, BadSetup}
-use Rattle.refusal.specs.declared.OptionU64.{OptionU64}
-use Rattle.refusal.specs.declared.OptionU64.TheVariants.{None, Some}
+use Rattle.refusal.specs.declared.Outcome.{Outcome}
+use Rattle.refusal.specs.Rules.{M, known, fin_with}
+use Rattle.refusal.proofs.Chain.{passes}
+use Rattle.refusal.proofs.Answers.{after_elim}
+use Rattle.arena.proofs.Places.{right_arena}
 use Rattle.range_buf.specs.declared.RangeBuf.{RangeBuf}
 use Rattle.flowcontrol.specs.declared.FlowControl.{FlowControl}
 use Rattle.flowcontrol.specs.State.{Good as GoodFlow}
-use Rattle.recv_buf.specs.declared.Outcome.{Outcome}
-use Rattle.recv_buf.specs.declared.CountOutcome.{CountOutcome}
-use Rattle.recv_buf.specs.declared.EmitOutcome.{EmitOutcome}
+use Rattle.flowcontrol.proofs.Kept.{fresh_good, consumed_good, committed_good, autotuned_good}
+use Rattle.recv_buf.specs.declared.RecvBuf.{RecvBuf}
 use Rattle.recv_buf.specs.State.{Recv, Chain, Within, Held, GoodRecv, Good}
 use Rattle.recv_buf.specs.Rules.{other_arena, is_ready, with_chunks, with_ends, with_flow, with_closed, new_recv, bad_numbers, created, passes_final, no_room, chunks_after, no_entry, write_judged, wrote, written, takes, left_over, unless_reset, take_judged, took_out, refused_take, discarded, emitted, reset_judged, was_reset, resets, shuts, commits, autotunes, flow_back}
 use Rattle.recv_buf.proofs.Lists.{within_weaken, filled_chain, filled_within, marked_chain, marked_within, left_chain, left_within, left_held, left_length, taken_within}
 use Rattle.recv_buf.proofs.Frames.{after_held}
-use Rattle.arena.proofs.Places.{right_arena}
-use Rattle.flowcontrol.proofs.Kept.{fresh_good, consumed_good, committed_good, autotuned_good}
 use Rattle.recv_buf.proofs.Good.{good_buf as good_of}
-use Rattle.tables.proofs.Tests.{either, clash, and_true, and-false, or_false}
-use Rattle.refusal.proofs.Chain.{passes}
-use Rattle.refusal.proofs.Answers.{after_elim}
 
 -- ---- creation
 
@@ -53,12 +50,12 @@ new_good A limit maximum a l m = record {
 -- ---- write
 
 -- a frame that passes the test on the final size: what it says of len, and of a final size known before
-pub record EndFits (fin : OptionU64) (len e : ℕ) (marked : Bool) : Type 0 where
+pub record EndFits (fin : Option ℕ) (len e : ℕ) (marked : Bool) : Type 0 where
   pub mark_high : marked ≡ true → len ≤ e
   pub in_final : (f : ℕ) → fin ≡ Some f → e ≤ f
   pub mark_same : (f : ℕ) → fin ≡ Some f → marked ≡ true → e ≡ f
 
-pub end_fits : (fin : OptionU64) (len e : ℕ) (marked : Bool) → passes_final fin len e marked ≡ false → EndFits fin len e marked
+pub end_fits : (fin : Option ℕ) (len e : ℕ) (marked : Bool) → passes_final fin len e marked ≡ false → EndFits fin len e marked
 end_fits None len e false h = record {
   mark_high = λ d. absurd (false≢true d);
   in_final = λ f d. let z : ◌≡◌ {A = ℕ} 0 1 = cc in absurd (omega arith);
@@ -85,7 +82,7 @@ end_fits (Some y) len e true h =
     }
 
 -- then the final size is still the highest end
-fin_is_top : (fin : OptionU64) (len e : ℕ) (marked : Bool) → EndFits fin len e marked → ((f : ℕ) → fin ≡ Some f → len ≡ f)
+fin_is_top : (fin : Option ℕ) (len e : ℕ) (marked : Bool) → EndFits fin len e marked → ((f : ℕ) → fin ≡ Some f → len ≡ f)
     → (f : ℕ) → fin_with fin e marked ≡ Some f → max len e ≡ f
 fin_is_top fin len e true h k f d = let w : e ≡ f = cc in omega (arith, h.mark_high refl)
 fin_is_top fin len e false h k f d = omega (arith, k f d, h.in_final f d)
@@ -100,7 +97,7 @@ pub record Accepted (r : Recv) (a s n : ℕ) (fin : Bool) : Type 0 where
   pub room : no_room r s n ≡ false
   pub entry : no_entry r s n fin ≡ false
 
-pub accepted : (r : Recv) (a s n : ℕ) (fin : Bool) → write_judged r a s n fin ≡ Done → Accepted r a s n fin
+pub accepted : (r : Recv) (a s n : ℕ) (fin : Bool) → write_judged r a s n fin ≡ Ok tt → Accepted r a s n fin
 unfolding write_judged
 accepted r a s n fin e =
     let e₁ = passes (other_arena r a) BadSetup _ e in
@@ -165,7 +162,7 @@ module _ (r : Recv) (s n : ℕ) (fin : Bool) (g : GoodRecv r) where
             filled_within r.chunks top (max s r.off) (s + n) (omega arith) wider,
           ))
 
-  pub wrote_good : (a : ℕ) → write_judged r a s n fin ≡ Done → GoodRecv (wrote r s n fin)
+  pub wrote_good : (a : ℕ) → write_judged r a s n fin ≡ Ok tt → GoodRecv (wrote r s n fin)
   unfolding wrote
   wrote_good a said = go (eqb n 0 && not fin) r.drain refl
     where
@@ -178,7 +175,7 @@ module _ (r : Recv) (s n : ℕ) (fin : Bool) (g : GoodRecv r) where
       top : ℕ
       top = max r.len (s + n)
 
-      fin' : OptionU64
+      fin' : Option ℕ
       fin' = fin_with r.fin (s + n) fin
 
       go : (b d : Bool) → r.drain ≡ d
@@ -213,17 +210,17 @@ module _ (r : Recv) (s n : ℕ) (fin : Bool) (g : GoodRecv r) where
 
 -- ---- emit and discard
 
-pub took_in : (r : Recv) (n : ℕ) → take_judged r n ≡ Done → r.flow.consumed + takes r n ≤ M
+pub took_in : (r : Recv) (n : ℕ) → take_judged r n ≡ Ok tt → r.flow.consumed + takes r n ≤ M
 unfolding take_judged
 took_in r n e = go r.error (passes (not (is_ready r.chunks r.off)) NothingReady _ e).1
   where
-    go : (f : OptionU64) → unless_reset f (cond (ltb M (r.flow.consumed + takes r n)) (Refused Offset) Done) ≡ Done
+    go : (f : Option ℕ) → unless_reset f (cond (ltb M (r.flow.consumed + takes r n)) (Err Offset) (Ok tt)) ≡ Ok tt
         → r.flow.consumed + takes r n ≤ M
-    go None d = ltb-false M (r.flow.consumed + takes r n) (passes (ltb M (r.flow.consumed + takes r n)) Offset Done d).0
+    go None d = ltb-false M (r.flow.consumed + takes r n) (passes (ltb M (r.flow.consumed + takes r n)) Offset (Ok tt) d).0
     go (Some code) d = let z : ◌≡◌ {A = ℕ} 0 1 = cc in absurd (omega arith)
 
 module _ (r : Recv) (g : GoodRecv r) where
-  pub took_out_good : (n : ℕ) → take_judged r n ≡ Done → GoodRecv (took_out r n)
+  pub took_out_good : (n : ℕ) → take_judged r n ≡ Ok tt → GoodRecv (took_out r n)
   unfolding took_out
   took_out_good n said = record {
     room_in = g.room_in;
@@ -263,7 +260,7 @@ module _ (r : Recv) (g : GoodRecv r) where
 
   -- ---- reset, shutdown, the window
 
-  pub reset_good : (code size : ℕ) → reset_judged r size ≡ Done → GoodRecv (was_reset r code size)
+  pub reset_good : (code size : ℕ) → reset_judged r size ≡ Ok tt → GoodRecv (was_reset r code size)
   unfolding reset_judged was_reset
   reset_good code size said =
       let top = ltb-false M size (passes (ltb M size) Offset _ said).0 in
@@ -315,9 +312,9 @@ module _ (r : Recv) (g : GoodRecv r) where
 -- ---- the buffer of each contract
 
 -- a refused creation hands back a dead buffer, and it is good too
-pub created_good : (limit maximum A : ℕ) → Good (created limit maximum A).buf
+pub created_good : (limit maximum A : ℕ) → Good (created limit maximum A).state
 unfolding created
-created_good limit maximum A = cond_elim (λ (o : Outcome). Good o.buf) (bad_numbers limit maximum A)
+created_good limit maximum A = cond_elim (λ (o : Outcome ⊤ RecvBuf). Good o.state) (bad_numbers limit maximum A)
     (λ e. good_of (new_recv 0 0 0) (new_good 0 0 0 (omega arith) (omega arith) (omega arith)))
     (λ e. let p = or_false (eqb A 0 || ltb 65536 A || ltb M limit) (ltb M maximum) e in
     let q = or_false (eqb A 0 || ltb 65536 A) (ltb M limit) p.0 in
@@ -325,25 +322,25 @@ created_good limit maximum A = cond_elim (λ (o : Outcome). Good o.buf) (bad_num
     good_of (new_recv A limit maximum) (new_good A limit maximum (ltb-false 65536 A t.1) (ltb-false M limit q.1) (ltb-false M maximum p.1)))
 
 module _ (r : Recv) (g : GoodRecv r) where
-  pub written_good : (a s n : ℕ) (fin : Bool) → Good (written r a s n fin).buf
+  pub written_good : (a s n : ℕ) (fin : Bool) → Good (written r a s n fin).state
   unfolding written
   written_good a s n fin = good_of _ (after_elim GoodRecv (write_judged r a s n fin) (wrote_good r s n fin g a) g)
 
-  pub discarded_good : (n : ℕ) → Good (discarded r n).buf
+  pub discarded_good : (n : ℕ) → Good (discarded r n).state
   unfolding discarded
   discarded_good n = good_of _ (after_elim GoodRecv (take_judged r n) (took_out_good r g n) (refused_take_good r g))
 
-  pub emitted_good : (a n : ℕ) → Good (emitted r a n).buf
+  pub emitted_good : (a n : ℕ) → Good (emitted r a n).state
   unfolding emitted
-  emitted_good a n = cond_elim (λ (o : EmitOutcome). Good o.buf) (other_arena r a) (λ e. good_of r g) (λ e. discarded_good n)
+  emitted_good a n = cond_elim (λ (o : Outcome (ℕ × Bool) RecvBuf). Good o.state) (other_arena r a) (λ e. good_of r g) (λ e. discarded_good n)
 
-  pub resets_good : (code size : ℕ) → Good (resets r code size).buf
+  pub resets_good : (code size : ℕ) → Good (resets r code size).state
   unfolding resets
   resets_good code size = good_of _ (after_elim GoodRecv (reset_judged r size) (reset_good r g code size) g)
 
-  pub shuts_good : Good (shuts r).buf
+  pub shuts_good : Good (shuts r).state
   unfolding shuts
-  shuts_good = cond_elim (λ (o : CountOutcome). Good o.buf) r.drain (λ e. good_of r g) (λ e. good_of _ (shut_good r g))
+  shuts_good = cond_elim (λ (o : Outcome ℕ RecvBuf). Good o.state) r.drain (λ e. good_of r g) (λ e. good_of _ (shut_good r g))
 
   pub commits_good : (now : ℕ) → Good (commits r now)
   unfolding commits

@@ -15,15 +15,15 @@ use mathlib.Core.Bool.{Bool, true, false, cond, ◌&&◌, false≢true}
 use mathlib.Core.List.{List, [], ◌∷◌}
 use Prim.Native.Nat.{ℕ, zero, suc, ◌+◌, ◌-◌, ◌≤◌, ◌<◌, min, max}
 use native.Mathlib.Omega.{arith}
+use borrow.Author.Tests.{ltb-true, ltb-false, leb-true, leb-false, eqb-true, eqb-false, eq-eqb}
 use lib.Dec.{ltb, leb, eqb}
 use lib.ListN.{length, drop}
-use borrow.Author.Tests.{ltb-true, ltb-false, leb-true, leb-false, eqb-true, eqb-false, eq-eqb}
 use Rattle.tables.proofs.Tables.{cases, cond_elim}
+use Rattle.tables.proofs.Tests.{either, and_true, and-false, or-true, or_false}
 use Rattle.range_buf.specs.declared.RangeBuf.{RangeBuf}
 use Rattle.range_buf.specs.Rules.{start, end, avail, fresh, used}
 use Rattle.recv_buf.specs.State.{Chain, Within, Held}
 use Rattle.recv_buf.specs.Rules.{filled, marked_at, holds, is_ready, taken, left_over, adjoining}
-use Rattle.tables.proofs.Tests.{either, and_true, and-false, or-true, or_false}
 
 -- ---- held, in order, within
 

@@ -1,26 +1,34 @@
 -- A table in the making: entry by entry it becomes the table of its list. Assumes nothing.
+use Rattle.std.proofs.lemmas.List.{drop-replicate}
 use mathlib.Core.Path.{◌≡◌, refl, sym, ap, ◌∙◌}
 use mathlib.Core.Bool.{cond}
 use mathlib.Core.List.{List, [], ◌∷◌, ◌++◌, append_assoc, append-nil}
-use Prim.Native.Nat.{ℕ, suc, ◌+◌, ◌-◌, ◌≤◌, ◌<◌}
+use Prim.Native.Nat.{ℕ, suc, ◌+◌, ◌-◌, ◌≤◌}
 use native.Mathlib.Omega.{arith}
 use borrow.Author.Tests.{lt-ltb, le-ltb}
 use lib.Dec.{ltb}
-use lib.ListN.{length, take, set, replicate, length-append, length-replicate}
+use lib.ListN.{length, take, drop, set, replicate, length-append, length-replicate}
 use lib.Seq.{take_all, take-append-le}
 use Rattle.tables.specs.Lists.{table_of}
-use Rattle.tables.proofs.Tables.{cases}
+use Rattle.tables.proofs.Tables.{cases, by_test}
 use Rattle.range_buf.specs.declared.RangeBuf.{RangeBuf}
 use Rattle.range_buf.specs.Rules.{zero_buf}
 use Rattle.recv_buf.specs.declared.RecvBuf.{RecvBuf}
 use Rattle.recv_buf.specs.declared.Entries.{Entries}
 use Rattle.recv_buf.specs.State.{Recv, buf_of}
+use Rattle.recv_buf.specs.Rules.{run}
 use Rattle.recv_buf.specs.Steps.{listed, pushed, pushed_all}
 use Rattle.recv_buf.proofs.Good.{made}
 
 -- a list with 64 entries or less is stored whole
 pub stored : (l : List RangeBuf) → length l ≤ 64 → take 64 (table_of zero_buf l) ≡ table_of zero_buf l
 stored l h = take_all 64 (table_of zero_buf l) (simp (length-append, length-replicate) (omega arith))
+
+-- a list copied over the front of a table without entries
+pub copied : (t : Entries) (l m : List RangeBuf) → t ≡ listed [] → length l ≤ 64 → m ≡ l
+    → ◌≡◌ {A = Entries} (record { «data» = m ++ drop (length l) t.«data»; count = length l }) (listed l)
+unfolding listed
+copied t l m n h e = rw (e, ap (λ (x : Entries). x.«data») n, stored l h, drop-replicate (length l) 64 zero_buf) refl
 
 -- one entry more where there is a place for it: it takes the place of the first zero
 store_more : (l : List RangeBuf) (c : RangeBuf) (n : ℕ) → 64 - length l ≡ suc n
@@ -55,27 +63,22 @@ push_listed l c =
     ) in
     λ j. record { «data» = z j; count = m j })
 
--- as a loop stores it: in its place, or past the last place only counted
-module _ (t : Entries) (c : RangeBuf) where
-  pub store_in : t.count < 64 → ◌≡◌ {A = Entries} (record { «data» = set t.«data» t.count c; count = t.count + 1 }) (pushed t c)
-  unfolding pushed
-  store_in h = rw (lt-ltb t.count 64 h)
-
-  pub store_past : 64 ≤ t.count → ◌≡◌ {A = Entries} (record { «data» = t.«data»; count = t.count + 1 }) (pushed t c)
-  unfolding pushed
-  store_past h = rw (le-ltb t.count 64 h)
-
 -- a list of them
 pub push_all : (l cs : List RangeBuf) → pushed_all (listed l) cs ≡ listed (l ++ cs)
 push_all l [] = ap listed (sym (append-nil l))
 push_all l (c ∷ cs) =
     ap (λ (t : Entries). pushed_all t cs) (push_listed l c) ∙ push_all (l ++ (c ∷ [])) cs ∙ ap listed (append_assoc l (c ∷ []) cs)
 
--- another first entry
-pub front_listed : (x c : RangeBuf) (cs : List RangeBuf)
-    → ◌≡◌ {A = Entries} (record { «data» = set (listed (c ∷ cs)).«data» 0 x; count = (listed (c ∷ cs)).count }) (listed (x ∷ cs))
+pub none_count : (t : Entries) → t ≡ listed [] → t.count ≡ 0
 unfolding listed
-front_listed x c cs = refl
+none_count t e = ap (λ (x : Entries). x.count) e
+
+pub push_none : (t : Entries) (cs : List RangeBuf) → t ≡ listed [] → pushed_all t cs ≡ listed cs
+push_none t cs e = rw e (push_all [] cs)
+
+-- a run, if there are bytes, and others behind it
+pub push_run : (t : Entries) (lo hi : ℕ) (cs : List RangeBuf) → pushed_all t (run lo hi cs) ≡ pushed_all (pushed_all t (run lo hi [])) cs
+push_run t lo hi cs = by_test (ltb lo hi) (λ y. rw y) (λ n. rw n)
 
 pub listed_count : (t : Entries) (l : List RangeBuf) → t ≡ listed l → t.count ≡ length l
 unfolding listed

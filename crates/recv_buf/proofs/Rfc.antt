@@ -15,24 +15,23 @@
 -- The words of these statements are defined in specs/RfcAgreement.antt; `start` and `told_by`, below, are short for two terms of them.
 --
 -- Assumes nothing.
+use Rattle.std.specs.Prelude.{Ok, Err, Some}
 use mathlib.Core.Path.{◌≡◌, sym, ap, subst, ◌∙◌}
 use mathlib.Core.Logic.{◌⊎◌, inl}
 use mathlib.Core.List.{List}
 use Prim.Native.Nat.{ℕ, ◌≤◌, ◌<◌}
 use native.Mathlib.Omega.{arith}
-use lib.ListN.{length, get_or}
 use borrow.Author.Tests.{lt-ltb}
+use lib.ListN.{length, get_or}
 use Rattle.tables.proofs.Tables.{cases}
-use Rattle.refusal.specs.Rules.{M}
-use Rattle.refusal.specs.declared.Answer.TheVariants.{Done, Refused}
 use Rattle.refusal.specs.declared.Refusal.{Refusal}
 use Rattle.refusal.specs.declared.Refusal.TheVariants.{NoRoom, TableFull}
-use Rattle.refusal.specs.declared.OptionU64.TheVariants.{Some}
+use Rattle.refusal.specs.Rules.{M}
+use Rattle.flowcontrol.proofs.Steady.{Steady, fresh_steady}
 use Rattle.recv_buf.specs.State.{Recv}
 use Rattle.recv_buf.specs.Rules.{created, written}
 use Rattle.recv_buf.specs.Rfc9000.{Known, opened, Frame, end_of, Tells, stream_frame, history, Breaks}
 use Rattle.recv_buf.specs.RfcAgreement.{Call, Side, view, begin, run, known_of, events, unlimited, Agrees, given, Refuses, Reads}
-use Rattle.flowcontrol.proofs.Steady.{Steady, fresh_steady}
 use Rattle.recv_buf.proofs.RfcLaws.{coherent_opened, coherent_history}
 use Rattle.recv_buf.proofs.RfcState.{Sound, known_eq}
 use Rattle.recv_buf.proofs.RfcErrors.{ours_only, Wide, table_only}
@@ -40,7 +39,7 @@ use Rattle.recv_buf.proofs.RfcRun.{Moved, right_of, moved_run, begun}
 use Rattle.recv_buf.proofs.RfcNow.{refuses_now, reads_now}
 
 -- a successful creation, and then any calls
-module _ (limit maximum : ℕ) (ar : List ℕ) (new : (created limit maximum (length ar)).answer ≡ Done) where
+module _ (limit maximum : ℕ) (ar : List ℕ) (new : (created limit maximum (length ar)).answer ≡ Ok tt) where
   abbrev pub start : Side
   start = begin limit maximum ar
 
@@ -97,7 +96,7 @@ module _ (limit maximum : ℕ) (ar : List ℕ) (new : (created limit maximum (le
 
     -- a frame with bytes or mark that breaks no rule is refused for our sizes only ..
     pub ours : (cs : List Call) (f : Frame) → Tells f → (Breaks (told_by cs) (stream_frame f) → ⊥)
-        → (why : Refusal) → given (run start cs) f ≡ Refused why → (why ≡ NoRoom) ⊎ (why ≡ TableFull)
+        → (why : Refusal) → given (run start cs) f ≡ Err why → (why ≡ NoRoom) ⊎ (why ≡ TableFull)
     unfolding written
     ours cs f t lawful why e =
         let y = run start cs in
@@ -108,7 +107,7 @@ module _ (limit maximum : ℕ) (ar : List ℕ) (new : (created limit maximum (le
 
     -- .. and (2.2) with an arena at least as long as the maximum window, only if it needs a 65th chunk
     pub buffers : maximum ≤ length ar → (cs : List Call) (f : Frame) → Tells f → (Breaks (told_by cs) (stream_frame f) → ⊥)
-        → (why : Refusal) → given (run start cs) f ≡ Refused why → why ≡ TableFull
+        → (why : Refusal) → given (run start cs) f ≡ Err why → why ≡ TableFull
     unfolding written
     buffers w cs f t lawful why e =
         let y = run start cs in

@@ -1,5 +1,6 @@
 -- Reset, shutdown, commit and autotune move what the buffer knows as RFC 9000 says: `knows_reset`, `knows_shut`, `knows_commit`, `knows_tune`.
 -- Assumes nothing.
+use Rattle.std.specs.Prelude.{Ok, Option, Some, None}
 use mathlib.Core.Path.{◌≡◌, refl, ◌∙◌}
 use mathlib.Core.Bool.{Bool, true, false, cond}
 use mathlib.Core.List.{List, [], ◌∷◌}
@@ -8,26 +9,23 @@ use native.Mathlib.Omega.{arith}
 use lib.Dec.{ltb}
 use lib.ListN.{get_or}
 use Rattle.tables.proofs.Tables.{cond_elim}
-use Rattle.refusal.specs.declared.Answer.TheVariants.{Done}
-use Rattle.refusal.specs.declared.OptionU64.{OptionU64}
-use Rattle.refusal.specs.declared.OptionU64.TheVariants.{None, Some}
+use Rattle.tables.proofs.Tests.{either, clash}
+use Rattle.refusal.specs.Rules.{known}
 use Rattle.arena.specs.Rules.{byte_at}
 use Rattle.range_buf.specs.declared.RangeBuf.{RangeBuf}
 use Rattle.range_buf.specs.Rules.{fresh}
 use Rattle.flowcontrol.specs.declared.FlowControl.{FlowControl}
 use Rattle.flowcontrol.specs.Rules.{next, committed, autotuned, recent, with_window}
+use Rattle.flowcontrol.proofs.Kept.{committed_good, autotuned_good}
 use Rattle.recv_buf.specs.State.{Recv, Held, GoodRecv}
 use Rattle.recv_buf.specs.Rules.{holds, with_chunks, with_ends, with_flow, with_closed, reset_judged, was_reset}
 use Rattle.recv_buf.specs.Rfc9000.{Known, is_some, taken_only, reset_stream, abort, advertise}
 use Rattle.recv_buf.specs.RfcAgreement.{knows}
-use Rattle.flowcontrol.proofs.Kept.{committed_good, autotuned_good}
 use Rattle.recv_buf.proofs.Kept.{reset_good, shut_good, flow_good}
 use Rattle.recv_buf.proofs.RfcState.{Sound, known_eq, unheld}
-use Rattle.refusal.specs.Rules.{known}
-use Rattle.tables.proofs.Tests.{either, clash}
 
 -- what is left when nothing is held
-only_taken : (t : Bool) (a b : OptionU64) → cond t a None ≡ cond t (cond t a b) None
+only_taken : (t : Bool) (a b : Option ℕ) → cond t a None ≡ cond t (cond t a b) None
 only_taken true a b = refl
 only_taken false a b = refl
 
@@ -40,7 +38,7 @@ pub record Changed (r x : Recv) (ar out : List ℕ) (k : Known) : Type 0 where
 
 module _ (r : Recv) (ar out : List ℕ) (g : Sound r ar out) where
   -- RESET_STREAM
-  pub knows_reset : (code size : ℕ) → reset_judged r size ≡ Done → Changed r (was_reset r code size) ar out (reset_stream (knows r ar out) code size)
+  pub knows_reset : (code size : ℕ) → reset_judged r size ≡ Ok tt → Changed r (was_reset r code size) ar out (reset_stream (knows r ar out) code size)
   unfolding was_reset reset_stream
   knows_reset code size said = go r.error refl (reset_good r g.good code size said)
     where
@@ -53,7 +51,7 @@ module _ (r : Recv) (ar out : List ℕ) (g : Sound r ar out) where
       empty : (o : ℕ) → Held (cond r.drain [] (fresh size 0 ∷ [])) o → ⊥
       empty o = cond_elim (λ (cs : List RangeBuf). Held cs o → ⊥) r.drain (λ y h. h) (λ y h. either h (λ p. omega arith) (λ z. z))
 
-      go : (z : OptionU64) → r.error ≡ z → GoodRecv (cond (known z) r now)
+      go : (z : Option ℕ) → r.error ≡ z → GoodRecv (cond (known z) r now)
           → Changed r (cond (known z) r now) ar out (cond (is_some z) (knows r ar out) reset)
       go (Some y) e w = record { knowledge = refl; sound = g; flow = refl; room = refl }
       go None e w = record {

@@ -1,23 +1,21 @@
 -- What an emit or a discard takes are the next bytes of RFC 9000's ordered stream, and it is refused only if there is none: `knows_emit`, `emit_refused`.
 -- Assumes nothing.
+use Rattle.std.specs.Prelude.{Result, Ok, Err, Option, Some, None, ⊤}
 use mathlib.Core.Path.{◌≡◌, refl, sym, ap, subst, ◌∙◌}
 use mathlib.Core.Logic.{◌⊎◌, inl, inr}
 use mathlib.Core.Bool.{Bool, true, false, cond, not, ◌&&◌}
 use mathlib.Core.List.{List, [], ◌∷◌, ◌++◌}
 use Prim.Native.Nat.{ℕ, zero, suc, ◌+◌, ◌-◌, ◌≤◌, ◌<◌}
 use native.Mathlib.Omega.{arith}
+use borrow.Author.Tests.{lt-ltb, le-ltb}
 use lib.Dec.{ltb}
 use lib.ListN.{length, get_or, get_or-append, length-append}
 use lib.Seq.{get_or-append-add}
-use borrow.Author.Tests.{lt-ltb, le-ltb}
 use Rattle.tables.proofs.Tables.{cases}
-use Rattle.refusal.specs.Rules.{M, known, is_at}
-use Rattle.refusal.specs.declared.Answer.{Answer}
-use Rattle.refusal.specs.declared.Answer.TheVariants.{Done, Refused}
+use Rattle.tables.proofs.Tests.{either, clash, and_true, decided, undecided}
 use Rattle.refusal.specs.declared.Refusal.{Refusal}
 use Rattle.refusal.specs.declared.Refusal.TheVariants.{Offset, Done as NothingReady, Reset}
-use Rattle.refusal.specs.declared.OptionU64.{OptionU64}
-use Rattle.refusal.specs.declared.OptionU64.TheVariants.{None, Some}
+use Rattle.refusal.specs.Rules.{M, known, is_at}
 use Rattle.arena.specs.Rules.{byte_at, held}
 use Rattle.arena.proofs.Laws.{length_held}
 use Rattle.range_buf.specs.declared.RangeBuf.{RangeBuf}
@@ -28,21 +26,20 @@ use Rattle.recv_buf.specs.RfcAgreement.{seen, knows}
 use Rattle.recv_buf.proofs.Lists.{holds_held, holds_not, held_holds, held_not, left_held, taken_held, held_left, taken_within, held_ready, taken_most, taken_stops, taken_adjoining}
 use Rattle.recv_buf.proofs.Kept.{took_out_good, refused_take_good}
 use Rattle.recv_buf.proofs.RfcState.{Sound, known_eq, unheld, idle_reset, idle_shut}
-use Rattle.tables.proofs.Tests.{either, clash, and_true, decided, undecided}
 
 -- ---- the ordered stream, read off an arena
 
 -- up to n bytes, or to the first that is not known
-ordered_held : (ar : List ℕ) (byte : ℕ → OptionU64) (o j n : ℕ) → j ≤ n → ((q : ℕ) → o ≤ q → q < o + j → byte q ≡ Some (byte_at ar q))
+ordered_held : (ar : List ℕ) (byte : ℕ → Option ℕ) (o j n : ℕ) → j ≤ n → ((q : ℕ) → o ≤ q → q < o + j → byte q ≡ Some (byte_at ar q))
     → (j ≡ n) ⊎ (byte (o + j) ≡ None) → ordered byte o n ≡ held ar o j
 unfolding held
 ordered_held ar byte o zero zero l h d = refl
 ordered_held ar byte o zero (suc n) l h (inl d) = absurd (omega arith)
 ordered_held ar byte o zero (suc n) l h (inr d) = let e : o + 0 ≡ o = omega arith in
-    ap (λ (b : OptionU64). more b (ordered byte (suc o) n)) (ap byte (sym e) ∙ d)
+    ap (λ (b : Option ℕ). more b (ordered byte (suc o) n)) (ap byte (sym e) ∙ d)
 ordered_held ar byte o (suc j) zero l h d = absurd (omega arith)
 ordered_held ar byte o (suc j) (suc n) l h d =
-    ap (λ (b : OptionU64). more b (ordered byte (suc o) n)) (h o (omega arith) (omega arith))
+    ap (λ (b : Option ℕ). more b (ordered byte (suc o) n)) (h o (omega arith) (omega arith))
     ∙ ap (λ (bs : List ℕ). byte_at ar o ∷ bs) (ordered_held ar byte (suc o) j n (omega arith) (λ q a b. h q (omega arith) (omega arith))
     (either d (λ e. inl (omega arith)) (λ e. let w : suc o + j ≡ o + suc j = omega arith in inr (ap byte w ∙ e))))
 
@@ -56,7 +53,7 @@ get_d_held ar o (suc k) (suc i) h = let e : suc o + i ≡ o + suc i = omega arit
 stuck : (r : Recv) (ar out : List ℕ) → (Held r.chunks r.flow.consumed → ⊥) → (n : ℕ) → available (knows r ar out) n ≡ []
 stuck r ar out h zero = refl
 stuck r ar out h (suc n) = let c = r.flow.consumed in
-    ap (λ (b : OptionU64). more b (ordered (seen r ar out) (suc c) n)) (unheld r ar out c h
+    ap (λ (b : Option ℕ). more b (ordered (seen r ar out) (suc c) n)) (unheld r ar out c h
     ∙ ap (λ (t : Bool). cond t (Some (get_or out c 0)) None) (le-ltb c c (omega arith)))
 
 unready : (cs : List RangeBuf) (off : ℕ) → Chain off cs → is_ready cs off ≡ false → Held cs off → ⊥
@@ -76,27 +73,27 @@ module _ (r : Recv) (ar out : List ℕ) (g : Sound r ar out) (n : ℕ) where
       go true x = clash (sym e ∙ ap (λ (cs : List RangeBuf). is_ready cs r.off) (g.good.shut_none x))
       go false x = refl
 
-  abbrev last : Answer
-  last = cond (ltb M (r.flow.consumed + takes r n)) (Refused Offset) Done
+  abbrev last : Result ⊤ Refusal
+  last = cond (ltb M (r.flow.consumed + takes r n)) (Err Offset) (Ok tt)
 
-  judged : take_judged r n ≡ cond (not (is_ready r.chunks r.off)) (Refused NothingReady) (unless_reset r.error last)
+  judged : take_judged r n ≡ cond (not (is_ready r.chunks r.off)) (Err NothingReady) (unless_reset r.error last)
   unfolding take_judged
   judged = refl
 
-  pub take_live : is_ready r.chunks r.off ≡ true → r.error ≡ None → take_judged r n ≡ Done
+  pub take_live : is_ready r.chunks r.off ≡ true → r.error ≡ None → take_judged r n ≡ Ok tt
   take_live d e =
       judged
-      ∙ undecided (ap not d) (Refused NothingReady) (unless_reset r.error last)
-      ∙ ap (λ (z : OptionU64). unless_reset z last) e
+      ∙ undecided (ap not d) (Err NothingReady) (unless_reset r.error last)
+      ∙ ap (λ (z : Option ℕ). unless_reset z last) e
       ∙ undecided (le-ltb M (r.flow.consumed + takes r n)
-      (omega (arith, g.live e (still_read d), g.good.len_in, taken_within r.chunks r.len r.off n g.good.chain g.good.within g.good.off_len))) (Refused Offset) Done
+      (omega (arith, g.live e (still_read d), g.good.len_in, taken_within r.chunks r.len r.off n g.good.chain g.good.within g.good.off_len))) (Err Offset) (Ok tt)
 
-  pub take_unready : is_ready r.chunks r.off ≡ false → take_judged r n ≡ Refused NothingReady
-  take_unready e = judged ∙ decided (ap not e) (Refused NothingReady) (unless_reset r.error last)
+  pub take_unready : is_ready r.chunks r.off ≡ false → take_judged r n ≡ Err NothingReady
+  take_unready e = judged ∙ decided (ap not e) (Err NothingReady) (unless_reset r.error last)
 
-  pub take_reset : is_ready r.chunks r.off ≡ true → (code : ℕ) → r.error ≡ Some code → take_judged r n ≡ Refused (Reset code)
+  pub take_reset : is_ready r.chunks r.off ≡ true → (code : ℕ) → r.error ≡ Some code → take_judged r n ≡ Err (Reset code)
   take_reset d code e =
-      judged ∙ undecided (ap not d) (Refused NothingReady) (unless_reset r.error last) ∙ ap (λ (z : OptionU64). unless_reset z last) e
+      judged ∙ undecided (ap not d) (Err NothingReady) (unless_reset r.error last) ∙ ap (λ (z : Option ℕ). unless_reset z last) e
 
   -- of a stream that is open and read
   module _ (d : r.drain ≡ false) (e : r.error ≡ None) where
@@ -123,10 +120,10 @@ module _ (r : Recv) (ar out : List ℕ) (g : Sound r ar out) (n : ℕ) where
         left : List RangeBuf
         left = left_over r.chunks r.off n
 
-        now : Bool → Bool → OptionU64
+        now : Bool → Bool → Option ℕ
         now t u = cond t (Some (get_or (out ++ went) o 0)) (cond u (Some (byte_at ar o)) None)
 
-        was : Bool → Bool → OptionU64
+        was : Bool → Bool → Option ℕ
         was t u = cond t (Some (get_or out o 0)) (cond u (Some (byte_at ar o)) None)
 
         low : o < c → now (ltb o (c + k)) (holds left o) ≡ was (ltb o c) (holds r.chunks o)
@@ -167,11 +164,11 @@ module _ (r : Recv) (ar out : List ℕ) (g : Sound r ar out) (n : ℕ) where
     took_ended = ap (λ (c : ℕ). is_at r.fin (c + takes r n)) (sym (g.live e d)) ∙ go r.fin
         ∙ ap (λ (x : ℕ). is_all r.fin (r.flow.consumed + x)) count_next
       where
-        go : (f : OptionU64) → is_at f (r.flow.consumed + takes r n) ≡ is_all f (r.flow.consumed + takes r n)
+        go : (f : Option ℕ) → is_at f (r.flow.consumed + takes r n) ≡ is_all f (r.flow.consumed + takes r n)
         go None = refl
         go (Some x) = refl
 
-    sound_took : take_judged r n ≡ Done → Sound (took_out r n) ar (out ++ went)
+    sound_took : take_judged r n ≡ Ok tt → Sound (took_out r n) ar (out ++ went)
     unfolding took_out
     sound_took said = record {
       good = took_out_good r g.good n said;
@@ -190,20 +187,20 @@ module _ (r : Recv) (ar out : List ℕ) (g : Sound r ar out) (n : ℕ) where
     pub ended : is_at r.fin (r.off + takes r n) ≡ is_all r.fin (r.flow.consumed + length (available (knows r ar out) n))
     pub sound : Sound (took_out r n) ar (out ++ went)
 
-  pub knows_emit : take_judged r n ≡ Done → Delivered
+  pub knows_emit : take_judged r n ≡ Ok tt → Delivered
   knows_emit said = go (is_ready r.chunks r.off) refl r.error refl
     where
-      go : (t : Bool) → is_ready r.chunks r.off ≡ t → (z : OptionU64) → r.error ≡ z → Delivered
+      go : (t : Bool) → is_ready r.chunks r.off ≡ t → (z : Option ℕ) → r.error ≡ z → Delivered
       go true d None e = let u = still_read d in
           record { bytes = went_next u e; count = count_next u e; after = knows_took u e; ended = took_ended u e; sound = sound_took u e said }
       go true d (Some code) e = let w : ◌≡◌ {A = ℕ} 0 1 = cc (take_reset d code e, said) in absurd (omega arith)
       go false d z e = let w : ◌≡◌ {A = ℕ} 0 1 = cc (take_unready d, said) in absurd (omega arith)
 
   -- a refused one had no byte to hand out
-  pub emit_refused : (x : Refusal) → take_judged r n ≡ Refused x → (i : ℕ) → available (knows r ar out) i ≡ []
+  pub emit_refused : (x : Refusal) → take_judged r n ≡ Err x → (i : ℕ) → available (knows r ar out) i ≡ []
   emit_refused x said i = go (is_ready r.chunks r.off) refl r.error refl r.drain refl
     where
-      go : (t : Bool) → is_ready r.chunks r.off ≡ t → (z : OptionU64) → r.error ≡ z → (b : Bool) → r.drain ≡ b
+      go : (t : Bool) → is_ready r.chunks r.off ≡ t → (z : Option ℕ) → r.error ≡ z → (b : Bool) → r.drain ≡ b
           → available (knows r ar out) i ≡ []
       go t d (Some code) e b y = stuck r ar out (idle_reset r ar out g code e r.flow.consumed) i
       go true d None e b y = let w : ◌≡◌ {A = ℕ} 0 1 = cc (take_live d e, said) in absurd (omega arith)
@@ -222,7 +219,7 @@ count_exact r ar out g n = go r.error refl r.drain refl
         (λ p. absurd (h r.off (taken_held r.chunks r.off n r.off g.good.chain (omega arith) (omega arith)))) (λ p. omega arith) in
         z ∙ ap length (sym (stuck r ar out (h r.flow.consumed) n))
 
-    go : (z : OptionU64) → r.error ≡ z → (b : Bool) → r.drain ≡ b → takes r n ≡ length (available (knows r ar out) n)
+    go : (z : Option ℕ) → r.error ≡ z → (b : Bool) → r.drain ≡ b → takes r n ≡ length (available (knows r ar out) n)
     go (Some code) e b d = none (idle_reset r ar out g code e)
     go None e true d = none (idle_shut r ar out g d)
     go None e false d = count_next r ar out g n d e
@@ -236,7 +233,7 @@ module _ (r : Recv) (ar out : List ℕ) (g : Sound r ar out) where
   reset_known : known r.error ≡ true → (o : ℕ) → Held r.chunks o → ⊥
   reset_known k = go r.error refl k
     where
-      go : (z : OptionU64) → r.error ≡ z → known z ≡ true → (o : ℕ) → Held r.chunks o → ⊥
+      go : (z : Option ℕ) → r.error ≡ z → known z ≡ true → (o : ℕ) → Held r.chunks o → ⊥
       go None e k = clash (sym k)
       go (Some code) e k = idle_reset r ar out g code e
 

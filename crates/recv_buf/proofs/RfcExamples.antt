@@ -1,5 +1,6 @@
 -- The definitions of Rfc9000 at work, by computing them: E8, E9 and E10 of docs/RULES.md, 10, as the RFC has them; that each rule can be broken;
 -- and the places where our rules and the RFC part.
+use Rattle.std.specs.Prelude.{Some, None}
 use mathlib.Core.Path.{◌≡◌, refl}
 use mathlib.Core.Bool.{Bool, true, false}
 use mathlib.Core.List.{List, [], ◌∷◌}
@@ -7,7 +8,6 @@ use Prim.Native.Nat.{ℕ}
 use native.Mathlib.Omega.{arith}
 use lib.ListN.{replicate}
 use Rattle.refusal.specs.Rules.{success}
-use Rattle.refusal.specs.declared.OptionU64.TheVariants.{None, Some}
 use Rattle.arena.specs.Rules.{held}
 use Rattle.recv_buf.specs.State.{buf_of}
 use Rattle.recv_buf.specs.Rules.{created, write_judged, wrote, written, written_arena, take_judged, took_out, discarded, emitted, emitted_out, reset_judged, was_reset, resets, commits}

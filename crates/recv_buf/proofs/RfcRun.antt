@@ -1,42 +1,39 @@
 -- Runs against RFC 9000: each call of a run moves what the buffer knows by the event that it is to the RFC, or not at all if it is refused: `moved_run`.
 -- Assumes nothing.
+use Rattle.std.specs.Prelude.{Result, Ok, Err, Some, ⊤}
 use mathlib.Core.Path.{◌≡◌, refl, sym, ap, subst, ◌∙◌}
 use mathlib.Core.Logic.{inl, inr}
 use mathlib.Core.Bool.{Bool, true, false, cond, ◌&&◌, ◌||◌}
 use mathlib.Core.List.{List, [], ◌∷◌, ◌++◌, append-nil, append_assoc}
 use Prim.Native.Nat.{ℕ, ◌+◌, ◌≤◌}
 use native.Mathlib.Omega.{arith}
+use borrow.Author.Tests.{eqb-false, ltb-false, eq-eqb, ne_eqb}
 use lib.Dec.{ltb, eqb}
 use lib.ListN.{length, take, drop}
 use lib.Seq.{take_at}
-use borrow.Author.Tests.{eqb-false, ltb-false, eq-eqb, ne_eqb}
 use Rattle.tables.proofs.Tables.{cond_elim}
-use Rattle.refusal.specs.Rules.{M, number_of, told, told_count, told_emit, told_sizes, after, known, is_at, with_bytes, with_sizes}
-use Rattle.refusal.specs.declared.Answer.{Answer}
-use Rattle.refusal.specs.declared.Answer.TheVariants.{Done, Refused}
+use Rattle.tables.proofs.Tests.{or_false, undecided}
 use Rattle.refusal.specs.declared.Refusal.{Refusal}
 use Rattle.refusal.specs.declared.Refusal.TheVariants.{Offset, Stopped, FinalSize, FlowControl as OverLimit, NoRoom, TableFull, NeverSent, Done as NothingReady, Reset, BadSetup}
-use Rattle.refusal.specs.declared.OptionU64.TheVariants.{Some}
+use Rattle.refusal.specs.declared.Outcome.{Outcome}
+use Rattle.refusal.specs.Rules.{M, number_of, told, told_count, told_emit, told_sizes, after, known, is_at, with_bytes, with_sizes}
 use Rattle.arena.specs.Rules.{held}
 use Rattle.arena.proofs.Laws.{length_held, held_none}
 use Rattle.flowcontrol.specs.declared.FlowControl.{FlowControl}
 use Rattle.flowcontrol.specs.Rules.{next, committed, autotuned, recent}
-use Rattle.recv_buf.specs.declared.Outcome.{Outcome}
-use Rattle.recv_buf.specs.declared.CountOutcome.{CountOutcome}
-use Rattle.recv_buf.specs.declared.EmitOutcome.{EmitOutcome}
+use Rattle.flowcontrol.proofs.Steady.{Steady, consumed_steady, committed_steady, autotuned_steady}
+use Rattle.recv_buf.specs.declared.RecvBuf.{RecvBuf}
 use Rattle.recv_buf.specs.State.{Recv, view_of, buf_of}
 use Rattle.recv_buf.specs.Rules.{other_arena, is_ready, new_recv, bad_numbers, created, write_judged, wrote, written, written_arena, takes, take_judged, took_out, refused_take, discarded, emitted, emitted_out, reset_judged, was_reset, resets, shuts, with_flow, commits, autotunes}
 use Rattle.recv_buf.specs.Rfc9000.{Known, opened, data_over, size_over, changed, beyond, short, is_some, stream, reset_changed, reset_short, taken_only, reset_stream, available, reading, abort, advertise, Event, stream_frame, reset_frame, read_up_to, give_up, max_stream_data, effect, history, handed_out, Breaks, Lawful}
 use Rattle.recv_buf.specs.RfcAgreement.{Call, write, emit, discard, reset, shutdown, commit, tune, Side, view, begin, count_of, step, run, knows, known_of, event, events, unlimited, Near}
 use Rattle.recv_buf.proofs.Good.{view_buf}
-use Rattle.flowcontrol.proofs.Steady.{Steady, consumed_steady, committed_steady, autotuned_steady}
 use Rattle.recv_buf.proofs.RfcLaws.{final_stays}
 use Rattle.recv_buf.proofs.RfcState.{Sound, knows_new, sound_new}
 use Rattle.recv_buf.proofs.RfcWrite.{Numbers, numbers, knows_write, sound_write}
 use Rattle.recv_buf.proofs.RfcErrors.{lawful_write, lawful_reset, Wide}
 use Rattle.recv_buf.proofs.RfcEmit.{went, knows_emit, knows_refused}
 use Rattle.recv_buf.proofs.RfcCalls.{knows_reset, shut, knows_shut, sound_commit, knows_tune}
-use Rattle.tables.proofs.Tests.{or_false, undecided}
 
 -- ---- apart from the limit
 
@@ -125,7 +122,7 @@ right_of r ar out g = rw (ne_eqb (length ar) 0 (λ e. omega (arith, g.size, g.so
 
 -- a refused frame leaves the arena
 unwritten : (r : Recv) (ar : List ℕ) (s : ℕ) (bytes : List ℕ) (fin : Bool) (why : Refusal)
-    → write_judged r (length ar) s (length bytes) fin ≡ Refused why
+    → write_judged r (length ar) s (length bytes) fin ≡ Err why
     → written_arena r ar s bytes fin ≡ ar
 unfolding written_arena
 unwritten r ar s bytes fin why e = rw e
@@ -169,11 +166,11 @@ module _ (x : Side) (g : Sound (view x) x.arena x.out) where
       at : r.flow.max_data ≡ (view x).flow.max_data
       at = ap (λ (j : Known). j.limit) k ∙ l (known_of x)
 
-  write_moved : (s : ℕ) (bytes : List ℕ) (fin : Bool) (said : Answer) → write_judged (view x) (length x.arena) s (length bytes) fin ≡ said
+  write_moved : (s : ℕ) (bytes : List ℕ) (fin : Bool) (said : Result ⊤ Refusal) → write_judged (view x) (length x.arena) s (length bytes) fin ≡ said
       → Moved x (cond (eqb (told said).number 0) (stream_frame (record { from = s; bytes = bytes; fin = fin }) ∷ []) [])
       (after said (wrote (view x) s (length bytes) fin) (view x)) (written_arena (view x) x.arena s bytes fin) x.out
   unfolding stream
-  write_moved s bytes fin Done e = one (wrote (view x) s (length bytes) fin) (written_arena (view x) x.arena s bytes fin) x.out (stream_frame (record { from = s; bytes = bytes; fin = fin }))
+  write_moved s bytes fin (Ok done) e = one (wrote (view x) s (length bytes) fin) (written_arena (view x) x.arena s bytes fin) x.out (stream_frame (record { from = s; bytes = bytes; fin = fin }))
       (sound_write (view x) x.arena x.out g s bytes fin e)
       (knows_write (view x) x.arena x.out g s bytes fin e)
       (lawful_write (view x) x.arena x.out s bytes fin (length x.arena) e)
@@ -184,15 +181,15 @@ module _ (x : Side) (g : Sound (view x) x.arena x.out) where
     where
       t : Numbers (view x) (s + length bytes) fin (ltb 0 (length bytes) || fin) (wrote (view x) s (length bytes) fin)
       t = numbers (view x) s (length bytes) fin
-  write_moved s bytes fin (Refused why) e = rw (number_some why)
+  write_moved s bytes fin (Err why) e = rw (number_some why)
       (subst (λ (a : List ℕ). Moved x [] (view x) a x.out) (sym (unwritten (view x) x.arena s bytes fin why e)) still)
 
   -- an emit or a discard: bs are the bytes that went
-  take_moved : (n : ℕ) (ended : Bool) (bs : List ℕ) (said : Answer) → take_judged (view x) n ≡ said
-      → (said ≡ Done → bs ≡ went (view x) x.arena x.out g n) → ((why : Refusal) → said ≡ Refused why → bs ≡ [])
+  take_moved : (n : ℕ) (ended : Bool) (bs : List ℕ) (said : Result ⊤ Refusal) → take_judged (view x) n ≡ said
+      → (said ≡ Ok tt → bs ≡ went (view x) x.arena x.out g n) → ((why : Refusal) → said ≡ Err why → bs ≡ [])
       → Moved x (cond (eqb (told_emit (with_bytes said (takes (view x) n) ended)).number 0) (read_up_to n ∷ []) []) (after said (took_out (view x) n) (refused_take (view x))) x.arena (x.out ++ bs)
   unfolding reading took_out
-  take_moved n ended bs Done e p q =
+  take_moved n ended bs (Ok done) e p q =
       let d = knows_emit (view x) x.arena x.out g n e in
       subst (λ (l : List ℕ). Moved x (read_up_to n ∷ []) (took_out (view x) n) x.arena (x.out ++ l)) (sym (p refl))
       (one (took_out (view x) n) x.arena (x.out ++ went (view x) x.arena x.out g n) (read_up_to n) d.sound d.after (λ z. z)
@@ -200,7 +197,7 @@ module _ (x : Side) (g : Sound (view x) x.arena x.out) where
       (λ k. refl)
       (λ st. consumed_steady (view x).flow st ((view x).flow.consumed + takes (view x) n) (omega arith))
       (λ v. v))
-  take_moved n ended bs (Refused why) e p q =
+  take_moved n ended bs (Err why) e p q =
       let c = knows_refused (view x) x.arena x.out g in
       rw (number_some why)
       (none_of (refused_take (view x)) x.arena (x.out ++ bs) (subst (Sound (refused_take (view x)) x.arena) (sym out_same) c.1)
@@ -216,17 +213,17 @@ module _ (x : Side) (g : Sound (view x) x.arena x.out) where
       wider : Wide (view x) → Wide (refused_take (view x))
       wider v = cond_elim Wide (is_ready (view x).chunks (view x).off && known (view x).error) (λ t. v) (λ t. v)
 
-  reset_moved : (code size a b : ℕ) (said : Answer) → reset_judged (view x) size ≡ said
+  reset_moved : (code size a b : ℕ) (said : Result ⊤ Refusal) → reset_judged (view x) size ≡ said
       → Moved x (cond (eqb (told_sizes (with_sizes said a b)).number 0) (reset_frame code size ∷ []) []) (after said (was_reset (view x) code size) (view x)) x.arena x.out
   unfolding reset_stream
-  reset_moved code size a b Done e = let p = knows_reset (view x) x.arena x.out g code size e in
+  reset_moved code size a b (Ok done) e = let p = knows_reset (view x) x.arena x.out g code size e in
       one (was_reset (view x) code size) x.arena x.out (reset_frame code size) p.sound p.knowledge
       (lawful_reset (view x) x.arena x.out size code e)
       (sym (append-nil x.out))
       (λ k. cond_elim (λ (j : Known). j.limit ≡ k.limit) (is_some k.reset) (λ t. refl) (λ t. refl))
       (subst Steady (sym p.flow))
       (same_wide (view x) (was_reset (view x) code size) p.flow p.room)
-  reset_moved code size a b (Refused why) e = rw (number_some why) still
+  reset_moved code size a b (Err why) e = rw (number_some why) still
 
   shut_moved : Moved x (give_up ∷ []) (shut (view x) x.arena x.out g) x.arena x.out
   unfolding abort
@@ -251,32 +248,32 @@ module _ (x : Side) (g : Sound (view x) x.arena x.out) where
       (λ v. cond_elim (λ (f : FlowControl). f.max_window ≤ (view x).room) (recent (view x).flow.last_update now rtt) (λ e. v) (λ e. v))
 
   -- the output of an emit
-  emit_went : (out : List ℕ) (said : Answer) (ended : Bool) → take_judged (view x) (length out) ≡ said
-      → (said ≡ Done → take (count_of (with_bytes said (takes (view x) (length out)) ended)) (emitted_out (view x) x.arena out)
+  emit_went : (out : List ℕ) (said : Result ⊤ Refusal) (ended : Bool) → take_judged (view x) (length out) ≡ said
+      → (said ≡ Ok tt → take (count_of (with_bytes said (takes (view x) (length out)) ended)) (emitted_out (view x) x.arena out)
       ≡ went (view x) x.arena x.out g (length out))
-      × ((why : Refusal) → said ≡ Refused why
+      × ((why : Refusal) → said ≡ Err why
       → take (count_of (with_bytes said (takes (view x) (length out)) ended)) (emitted_out (view x) x.arena out) ≡ [])
   unfolding emitted_out
-  emit_went out Done ended e = (
+  emit_went out (Ok done) ended e = (
     λ _. let k = takes (view x) (length out) in
         ap (take k) (undecided (right_of (view x) x.arena x.out g) out _
-        ∙ ap (λ (a : Answer). after a (held x.arena (view x).off k ++ drop k out) out) e)
+        ∙ ap (λ (a : Result ⊤ Refusal). after a (held x.arena (view x).off k ++ drop k out) out) e)
         ∙ take_at (held x.arena (view x).off k) (drop k out) k (length_held x.arena (view x).off k),
     λ why d. let z : ◌≡◌ {A = ℕ} 0 1 = cc in absurd (omega arith),
   )
-  emit_went out (Refused why) ended e = (λ d. let z : ◌≡◌ {A = ℕ} 0 1 = cc in absurd (omega arith), λ why d. refl)
+  emit_went out (Err why) ended e = (λ d. let z : ◌≡◌ {A = ℕ} 0 1 = cc in absurd (omega arith), λ why d. refl)
 
-  discard_went : (n : ℕ) (said : Answer) (ended : Bool)
-      → (said ≡ Done → held x.arena (view x).off (count_of (with_bytes said (takes (view x) n) ended)) ≡ went (view x) x.arena x.out g n)
-      × ((why : Refusal) → said ≡ Refused why → held x.arena (view x).off (count_of (with_bytes said (takes (view x) n) ended)) ≡ [])
-  discard_went n Done ended = (λ d. refl, λ why d. let z : ◌≡◌ {A = ℕ} 0 1 = cc in absurd (omega arith))
-  discard_went n (Refused why) ended = (λ d. let z : ◌≡◌ {A = ℕ} 0 1 = cc in absurd (omega arith), λ why d. held_none x.arena (view x).off)
+  discard_went : (n : ℕ) (said : Result ⊤ Refusal) (ended : Bool)
+      → (said ≡ Ok tt → held x.arena (view x).off (count_of (with_bytes said (takes (view x) n) ended)) ≡ went (view x) x.arena x.out g n)
+      × ((why : Refusal) → said ≡ Err why → held x.arena (view x).off (count_of (with_bytes said (takes (view x) n) ended)) ≡ [])
+  discard_went n (Ok done) ended = (λ d. refl, λ why d. let z : ◌≡◌ {A = ℕ} 0 1 = cc in absurd (omega arith))
+  discard_went n (Err why) ended = (λ d. let z : ◌≡◌ {A = ℕ} 0 1 = cc in absurd (omega arith), λ why d. held_none x.arena (view x).off)
 
   -- a discard; an emit with the right arena does the same
   discard_moved : (n : ℕ) (bs : List ℕ)
-      → (take_judged (view x) n ≡ Done → bs ≡ went (view x) x.arena x.out g n)
-      → ((why : Refusal) → take_judged (view x) n ≡ Refused why → bs ≡ [])
-      → Moved x (cond (eqb (told_emit (discarded (view x) n).answer).number 0) (read_up_to n ∷ []) []) (view_of (discarded (view x) n).buf) x.arena (x.out ++ bs)
+      → (take_judged (view x) n ≡ Ok tt → bs ≡ went (view x) x.arena x.out g n)
+      → ((why : Refusal) → take_judged (view x) n ≡ Err why → bs ≡ [])
+      → Moved x (cond (eqb (told_emit (discarded (view x) n).answer).number 0) (read_up_to n ∷ []) []) (view_of (discarded (view x) n).state) x.arena (x.out ++ bs)
   unfolding discarded
   discard_moved n bs p q = subst
       (λ (r : Recv). Moved x (cond (eqb (told_emit (discarded (view x) n).answer).number 0) (read_up_to n ∷ []) []) r x.arena (x.out ++ bs))
@@ -296,7 +293,7 @@ module _ (x : Side) (g : Sound (view x) x.arena x.out) where
       (write_moved s bytes fin (write_judged (view x) (length x.arena) s (length bytes) fin) refl)
   moved (emit out) =
       let p = emit_went out (take_judged (view x) (length out)) (is_at (view x).fin ((view x).off + takes (view x) (length out))) refl in
-      subst (λ (e : EmitOutcome). Moved x (cond (eqb (told_emit e.answer).number 0) (read_up_to (length out) ∷ []) []) (view_of e.buf) x.arena
+      subst (λ (e : Outcome (ℕ × Bool) RecvBuf). Moved x (cond (eqb (told_emit e.answer).number 0) (read_up_to (length out) ∷ []) []) (view_of e.state) x.arena
       (x.out ++ take (count_of e.answer) (emitted_out (view x) x.arena out))) (sym (emit_is (length out)))
       (discard_moved (length out) _ p.0 p.1)
   moved (discard n) =
@@ -307,7 +304,7 @@ module _ (x : Side) (g : Sound (view x) x.arena x.out) where
       (sym (view_buf (after (reset_judged (view x) size) (was_reset (view x) code size) (view x))))
       (reset_moved code size _ _ (reset_judged (view x) size) refl)
   moved shutdown =
-      cond_elim (λ (o : CountOutcome). Moved x (cond (eqb (told_count o.answer).number 0) (give_up ∷ []) []) (view_of o.buf) x.arena x.out) (view x).drain
+      cond_elim (λ (o : Outcome ℕ RecvBuf). Moved x (cond (eqb (told_count o.answer).number 0) (give_up ∷ []) []) (view_of o.state) x.arena x.out) (view x).drain
       (λ e. subst (λ (r : Recv). Moved x [] r x.arena x.out) (sym (view_buf (view x))) still)
       (λ e. subst (λ (r : Recv). Moved x (give_up ∷ []) r x.arena x.out) (sym (view_buf (shut (view x) x.arena x.out g))) shut_moved)
   moved (commit now) =
@@ -367,20 +364,20 @@ pub record Begun (limit maximum : ℕ) (ar : List ℕ) : Type 0 where
   pub sound : Sound (view (begin limit maximum ar)) ar []
   pub near : Near (known_of (begin limit maximum ar)) (opened limit)
 
-pub begun : (limit maximum : ℕ) (ar : List ℕ) → (created limit maximum (length ar)).answer ≡ Done → Begun limit maximum ar
+pub begun : (limit maximum : ℕ) (ar : List ℕ) → (created limit maximum (length ar)).answer ≡ Ok tt → Begun limit maximum ar
 unfolding created opened
 begun limit maximum ar e = go (bad_numbers limit maximum (length ar)) refl e
   where
-    dead : Outcome
-    dead = record { answer = Refused BadSetup; buf = buf_of (new_recv 0 0 0) }
+    dead : Outcome ⊤ RecvBuf
+    dead = record { answer = Err BadSetup; state = buf_of (new_recv 0 0 0) }
 
-    made : Outcome
-    made = record { answer = Done; buf = buf_of (new_recv (length ar) limit maximum) }
+    made : Outcome ⊤ RecvBuf
+    made = record { answer = Ok tt; state = buf_of (new_recv (length ar) limit maximum) }
 
     is_new_lem : bad_numbers limit maximum (length ar) ≡ false → view (begin limit maximum ar) ≡ new_recv (length ar) limit maximum
-    is_new_lem h = ap (λ (o : Outcome). view_of o.buf) (undecided h dead made) ∙ view_buf (new_recv (length ar) limit maximum)
+    is_new_lem h = ap (λ (o : Outcome ⊤ RecvBuf). view_of o.state) (undecided h dead made) ∙ view_buf (new_recv (length ar) limit maximum)
 
-    go : (t : Bool) → bad_numbers limit maximum (length ar) ≡ t → (cond t dead made).answer ≡ Done → Begun limit maximum ar
+    go : (t : Bool) → bad_numbers limit maximum (length ar) ≡ t → (cond t dead made).answer ≡ Ok tt → Begun limit maximum ar
     go true h d = let z : ◌≡◌ {A = ℕ} 0 1 = cc in absurd (omega arith)
     go false h d =
         let p = or_false (eqb (length ar) 0 || ltb 65536 (length ar) || ltb M limit) (ltb M maximum) h in

@@ -1,15 +1,16 @@
 -- Of a receive buffer read as RFC 9000's knowledge (`knows`): what holds of every one that came from creation or a call, beside being good, `Sound`.
 -- Assumes nothing.
+use Rattle.std.specs.Prelude.{Some, None}
 use mathlib.Core.Path.{◌≡◌, refl, ap, subst}
 use mathlib.Core.Bool.{Bool, true, false, cond, ◌||◌}
 use mathlib.Core.List.{List, []}
 use Prim.Native.Nat.{ℕ, ◌≤◌, ◌<◌}
 use native.Mathlib.Omega.{arith}
+use borrow.Author.Tests.{le-ltb}
 use lib.Dec.{ltb}
 use lib.ListN.{length, get_or}
-use borrow.Author.Tests.{le-ltb}
+use Rattle.tables.proofs.Tests.{either, or-true}
 use Rattle.refusal.specs.Rules.{M}
-use Rattle.refusal.specs.declared.OptionU64.TheVariants.{None, Some}
 use Rattle.arena.specs.Rules.{byte_at}
 use Rattle.range_buf.specs.declared.RangeBuf.{RangeBuf}
 use Rattle.recv_buf.specs.State.{Recv, Held, GoodRecv}
@@ -19,7 +20,6 @@ use Rattle.recv_buf.specs.RfcAgreement.{seen, knows}
 use Rattle.recv_buf.proofs.Lists.{held_not, chain_held, within_held}
 use Rattle.recv_buf.proofs.Kept.{new_good}
 use Rattle.recv_buf.proofs.RfcLaws.{some_is}
-use Rattle.tables.proofs.Tests.{either, or-true}
 
 -- what holds of every state that came from a successful creation or a call, with the arena it was created for
 pub record Sound (r : Recv) (ar out : List ℕ) : Type 0 where

@@ -1,17 +1,17 @@
 -- An accepted frame moves what the buffer knows exactly as RFC 9000's STREAM frame moves it: `knows_write`. Assumes nothing.
+use Rattle.std.specs.Prelude.{Ok, Option, Some, None}
 use mathlib.Core.Path.{◌≡◌, refl, sym, ap, subst, ◌∙◌}
 use mathlib.Core.Logic.{◌⊎◌, inl, inr}
 use mathlib.Core.Bool.{Bool, true, false, cond, not, ◌&&◌, ◌||◌}
 use mathlib.Core.List.{List}
 use Prim.Native.Nat.{ℕ, ◌+◌, ◌≤◌, ◌<◌, max}
 use native.Mathlib.Omega.{arith}
+use borrow.Author.Tests.{ltb-false, eqb-true, eqb-false, lt-ltb, le-ltb, not-true}
 use lib.Dec.{ltb, eqb}
 use lib.ListN.{length, get_or}
-use borrow.Author.Tests.{ltb-false, eqb-true, eqb-false, lt-ltb, le-ltb, not-true}
 use Rattle.tables.proofs.Tables.{cond_elim}
-use Rattle.refusal.specs.declared.Answer.TheVariants.{Done}
-use Rattle.refusal.specs.declared.OptionU64.{OptionU64}
-use Rattle.refusal.specs.declared.OptionU64.TheVariants.{None, Some}
+use Rattle.tables.proofs.Tests.{either, clash, and_true, or-true, or_false}
+use Rattle.refusal.specs.Rules.{fin_with}
 use Rattle.arena.specs.Rules.{byte_at}
 use Rattle.range_buf.specs.declared.RangeBuf.{RangeBuf}
 use Rattle.flowcontrol.specs.declared.FlowControl.{FlowControl}
@@ -25,8 +25,6 @@ use Rattle.recv_buf.proofs.Bytes.{kept_length, kept_stays, kept_new_lem}
 use Rattle.recv_buf.proofs.Kept.{EndFits, end_fits, Accepted, accepted, fits_room, wrote_good}
 use Rattle.recv_buf.proofs.RfcLaws.{data_at_inside, data_at_is, data_at_none, some_is, none_is}
 use Rattle.recv_buf.proofs.RfcState.{Sound, known_eq, unheld, idle}
-use Rattle.refusal.specs.Rules.{fin_with}
-use Rattle.tables.proofs.Tests.{either, clash, and_true, or-true, or_false}
 
 -- ---- the numbers after an accepted frame that ends at e; `tells` is whether it has bytes or a mark
 
@@ -40,7 +38,7 @@ pub record Numbers (r : Recv) (e : ℕ) (fin tells : Bool) (x : Recv) : Type 0 w
   pub off : r.drain ≡ false → x.off ≡ r.off
   pub flush : r.off ≡ r.len → e ≤ r.len → x.off ≡ x.len
 
-fin_is : (f : OptionU64) (e : ℕ) (fin : Bool) → fin_with f e fin ≡ cond fin (Some e) f
+fin_is : (f : Option ℕ) (e : ℕ) (fin : Bool) → fin_with f e fin ≡ cond fin (Some e) f
 fin_is f e true = refl
 fin_is f e false = refl
 
@@ -63,7 +61,7 @@ module _ (r : Recv) (s n : ℕ) (fin : Bool) where
       len_is : (b : Bool) → (eqb n 0 && not fin) ≡ b → cond (not b) top r.len ≡ cond (ltb 0 n || fin) top r.len
       len_is b e = sym (ap (λ (t : Bool). cond t top r.len) (tells_not n fin b e))
 
-      fin' : OptionU64
+      fin' : Option ℕ
       fin' = fin_with r.fin (s + n) fin
 
       go : (b : Bool) → (eqb n 0 && not fin) ≡ b → (d : Bool) → r.drain ≡ d
@@ -104,7 +102,7 @@ abbrev pub new_arena : Recv → List ℕ → ℕ → List ℕ → List ℕ
 new_arena r ar s bytes = cond r.drain ar (kept_new r ar s bytes)
 
 module _ (r : Recv) (ar out : List ℕ) (g : Sound r ar out) (s : ℕ) (bytes : List ℕ) (fin : Bool)
-    (said : write_judged r (length ar) s (length bytes) fin ≡ Done) where
+    (said : write_judged r (length ar) s (length bytes) fin ≡ Ok tt) where
   ok : Accepted r (length ar) s (length bytes) fin
   ok = accepted r (length ar) s (length bytes) fin said
 
@@ -149,7 +147,7 @@ module _ (r : Recv) (ar out : List ℕ) (g : Sound r ar out) (s : ℕ) (bytes : 
       fits : 0 < length bytes → s + length bytes ≤ r.off + length ar
       fits h = omega (arith, fits_room r s (length bytes) d ok.room h, g.size)
 
-      body : r.off ≤ o → (h : Bool) → holds r.chunks o ≡ h → (b : OptionU64) → data_at s bytes o ≡ b
+      body : r.off ≤ o → (h : Bool) → holds r.chunks o ≡ h → (b : Option ℕ) → data_at s bytes o ≡ b
           → cond (holds now o) (Some (byte_at stored o)) None ≡ first (cond h (Some (byte_at ar o)) None) b
       body k true hh b bb = let y = holds_held r.chunks o hh in
           ap (λ (z : Bool). cond z (Some (byte_at stored o)) None) (held_holds now o (held_wrote r s (length bytes) fin d o (inl y)))
@@ -169,7 +167,7 @@ module _ (r : Recv) (ar out : List ℕ) (g : Sound r ar out) (s : ℕ) (bytes : 
 
   seen_write : (o : ℕ) → seen (wrote r s (length bytes) fin) (new_arena r ar s bytes) out o
       ≡ cond (r.drain || is_some r.error) (seen r ar out o) (first (seen r ar out o) (data_at s bytes o))
-  seen_write o = cond_elim (λ (y : OptionU64). seen (wrote r s (length bytes) fin) (new_arena r ar s bytes) out o ≡ y) (r.drain || is_some r.error)
+  seen_write o = cond_elim (λ (y : Option ℕ). seen (wrote r s (length bytes) fin) (new_arena r ar s bytes) out o ≡ y) (r.drain || is_some r.error)
       (λ c. seen_closed c o)
       (λ c. let p = or_false r.drain (is_some r.error) c in seen_open p.0 (none_is r.error p.1) o)
 
@@ -208,6 +206,6 @@ module _ (r : Recv) (ar out : List ℕ) (g : Sound r ar out) (s : ℕ) (bytes : 
           let l : (wrote r s (length bytes) fin).len ≡ r.len = t.len
           ∙ cond_elim (λ (y : ℕ). y ≡ r.len) (ltb 0 (length bytes) || fin) (λ z. omega arith) (λ z. refl) in (
             t.flush p.0 q,
-            t.final ∙ cond_elim (λ (y : OptionU64). y ≡ Some r.len) fin (λ z. ap Some (ends.mark_same r.len p.1 z)) (λ z. p.1)
+            t.final ∙ cond_elim (λ (y : Option ℕ). y ≡ Some r.len) fin (λ z. ap Some (ends.mark_same r.len p.1 z)) (λ z. p.1)
                 ∙ ap Some (sym l),
           )

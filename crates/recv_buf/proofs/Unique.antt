@@ -1,58 +1,56 @@
 -- No second answer, buffer, arena or output satisfies a contract: each contract of the receive buffer is an equation for all that the call gives back.
 -- b is the buffer that goes into the call. Assumes nothing.
+use Rattle.std.specs.Prelude.{⊤}
 use mathlib.Core.Path.{◌≡◌, sym, ap, ◌∙◌}
 use mathlib.Core.Bool.{Bool}
 use mathlib.Core.List.{List}
 use Prim.Native.Nat.{ℕ}
 use lib.ListN.{length}
 use Rattle.tables.proofs.Tables.{no_second}
+use Rattle.refusal.specs.declared.Outcome.{Outcome}
+use Rattle.refusal.specs.Rules.{is_at}
 use Rattle.flowcontrol.specs.declared.FlowControl.{FlowControl}
 use Rattle.flowcontrol.specs.Rules.{next}
 use Rattle.recv_buf.specs.declared.RecvBuf.{RecvBuf}
-use Rattle.recv_buf.specs.declared.Outcome.{Outcome}
-use Rattle.recv_buf.specs.declared.CountOutcome.{CountOutcome}
-use Rattle.recv_buf.specs.declared.EmitOutcome.{EmitOutcome}
-use Rattle.recv_buf.specs.declared.SizesOutcome.{SizesOutcome}
 use Rattle.recv_buf.specs.State.{view_of, buf_of, Good}
-use Rattle.recv_buf.specs.Check.{good_by}
 use Rattle.recv_buf.specs.Rules.{created, written, written_arena, emitted, emitted_out, discarded, resets, shuts, commits, autotunes, flow_back, almost_full, is_ready, readable}
-use Rattle.refusal.specs.Rules.{is_at}
+use Rattle.recv_buf.specs.Check.{good_by}
 
 -- a good buffer is determined by what it holds
 pub same : (b c : RecvBuf) → Good b → Good c → view_of b ≡ view_of c → b ≡ c
 same b c g h e = g.whole ∙ ap buf_of e ∙ sym h.whole
 
 -- `new`
-pub new_unique : (limit maximum A : ℕ) (p q : Outcome) → p ≡ created limit maximum A → q ≡ created limit maximum A → p ≡ q
+pub new_unique : (limit maximum A : ℕ) (p q : Outcome ⊤ RecvBuf) → p ≡ created limit maximum A → q ≡ created limit maximum A → p ≡ q
 new_unique limit maximum A p q = no_second p q
 
 module _ (b : RecvBuf) where
   -- ---- the calls that change something
 
   -- `write`: the outcome, and the arena
-  pub write_unique : (ar : List ℕ) (s : ℕ) (bytes : List ℕ) (fin : Bool) (p q : Outcome) (x y : List ℕ)
+  pub write_unique : (ar : List ℕ) (s : ℕ) (bytes : List ℕ) (fin : Bool) (p q : Outcome ⊤ RecvBuf) (x y : List ℕ)
       → p ≡ written (view_of b) (length ar) s (length bytes) fin → x ≡ written_arena (view_of b) ar s bytes fin
       → q ≡ written (view_of b) (length ar) s (length bytes) fin → y ≡ written_arena (view_of b) ar s bytes fin
       → (p ≡ q) × (x ≡ y)
   write_unique ar s bytes fin p q x y d e f g = (no_second p q d f, no_second x y e g)
 
   -- `emit`: the outcome, and the output
-  pub emit_unique : (ar out : List ℕ) (p q : EmitOutcome) (x y : List ℕ)
+  pub emit_unique : (ar out : List ℕ) (p q : Outcome (ℕ × Bool) RecvBuf) (x y : List ℕ)
       → p ≡ emitted (view_of b) (length ar) (length out) → x ≡ emitted_out (view_of b) ar out
       → q ≡ emitted (view_of b) (length ar) (length out) → y ≡ emitted_out (view_of b) ar out
       → (p ≡ q) × (x ≡ y)
   emit_unique ar out p q x y d e f g = (no_second p q d f, no_second x y e g)
 
   -- `discard`
-  pub discard_unique : (n : ℕ) (p q : EmitOutcome) → p ≡ discarded (view_of b) n → q ≡ discarded (view_of b) n → p ≡ q
+  pub discard_unique : (n : ℕ) (p q : Outcome (ℕ × Bool) RecvBuf) → p ≡ discarded (view_of b) n → q ≡ discarded (view_of b) n → p ≡ q
   discard_unique n p q = no_second p q
 
   -- `reset`
-  pub reset_unique : (code size : ℕ) (p q : SizesOutcome) → p ≡ resets (view_of b) code size → q ≡ resets (view_of b) code size → p ≡ q
+  pub reset_unique : (code size : ℕ) (p q : Outcome (ℕ × ℕ) RecvBuf) → p ≡ resets (view_of b) code size → q ≡ resets (view_of b) code size → p ≡ q
   reset_unique code size p q = no_second p q
 
   -- `shutdown`
-  pub shutdown_unique : (p q : CountOutcome) → p ≡ shuts (view_of b) → q ≡ shuts (view_of b) → p ≡ q
+  pub shutdown_unique : (p q : Outcome ℕ RecvBuf) → p ≡ shuts (view_of b) → q ≡ shuts (view_of b) → p ≡ q
   shutdown_unique p q = no_second p q
 
   -- `update_max_data`, `autotune_window`, `set_flow_control`

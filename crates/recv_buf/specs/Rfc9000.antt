@@ -4,19 +4,17 @@
 --
 -- How to read it. `None` is "no number", `Some n` the number n. `cond t x y` is x if the test t holds, else y. `λ o. ..` is "for each o".
 -- Lists are `[]` or `first ∷ rest`. A `data` type lists the ways in which something comes about, one to a line.
-use Rattle.std.specs.Prelude.{◌≡◌, ◌≢◌, ◌⊎◌, Bool, true, false, cond, ◌||◌, List, [], ◌∷◌, ◌++◌, ℕ, zero, suc, ◌+◌, ◌-◌, ◌^◌, ◌≤◌, ◌<◌, max, ltb, eqb, length}
-use Rattle.refusal.specs.declared.OptionU64.{OptionU64}
-use Rattle.refusal.specs.declared.OptionU64.TheVariants.{None, Some}
+use Rattle.std.specs.Prelude.{◌≡◌, ◌≢◌, ◌⊎◌, Bool, true, false, cond, ◌||◌, List, [], ◌∷◌, ◌++◌, ℕ, zero, suc, ◌+◌, ◌-◌, ◌^◌, ◌≤◌, ◌<◌, max, ltb, eqb, length, Option, Some, None}
 
 -- ---- what is known
 
 pub record Known : Type 0 where
-  pub byte : ℕ → OptionU64  -- for each offset of the stream, the byte received for it, if one was
+  pub byte : ℕ → Option ℕ  -- for each offset of the stream, the byte received for it, if one was
   pub highest : ℕ  -- 19.10: the largest offset received, counted behind its byte; a known final size counts as received (4.5)
-  pub final : OptionU64  -- 4.5: the final size, once known
+  pub final : Option ℕ  -- 4.5: the final size, once known
   pub limit : ℕ  -- 4.1: the largest limit advertised for the stream
   pub delivered : ℕ  -- 2.2: how many bytes the application has taken; they are the first of the stream
-  pub reset : OptionU64  -- 19.4: the error code of the RESET_STREAM received, if one was
+  pub reset : Option ℕ  -- 19.4: the error code of the RESET_STREAM received, if one was
   pub aborted : Bool  -- 2.4, 19.5: the application has given up reading
 
 -- 4.1: at first the limit is the one from the transport parameters, and nothing was received
@@ -64,17 +62,17 @@ pub data FinalSizeError (k : Known) (f : Frame) : Type 0 where
   short : f.fin ≡ true → end_of f < k.highest → FinalSizeError k f
 
 -- 19.8: of data that starts at s, the byte for offset o
-abbrev pub data_at : ℕ → List ℕ → ℕ → OptionU64
+abbrev pub data_at : ℕ → List ℕ → ℕ → Option ℕ
 data_at s [] o = None
 data_at s (b ∷ bs) o = cond (eqb s o) (Some b) (data_at (suc s) bs o)
 
 -- 2.2: what comes again for an offset can be thrown away: the first byte stays.
 -- (A byte that differs may be taken for a PROTOCOL_VIOLATION; that is a choice, and it is not made here.)
-abbrev pub first : OptionU64 → OptionU64 → OptionU64
+abbrev pub first : Option ℕ → Option ℕ → Option ℕ
 first (Some b) new = Some b
 first None new = new
 
-abbrev pub is_some : OptionU64 → Bool
+abbrev pub is_some : Option ℕ → Bool
 is_some None = false
 is_some (Some x) = true
 
@@ -111,7 +109,7 @@ abbrev pub ResetOver : Known → ℕ → Type 0
 ResetOver k size = k.limit < size
 
 -- of the bytes, those that the application has taken
-abbrev pub taken_only : Known → ℕ → OptionU64
+abbrev pub taken_only : Known → ℕ → Option ℕ
 taken_only k o = cond (ltb o k.delivered) (k.byte o) None
 
 -- 3.2: the first RESET_STREAM may interrupt delivery and drop what was not taken, and here it does; 4.5: it makes the final size known.
@@ -123,11 +121,11 @@ reset_stream k code size = cond (is_some k.reset) k
 -- ---- the application, and the limit
 
 -- 2.2: the ordered byte stream: at most n bytes from offset o on, up to the first offset whose byte is not known
-abbrev pub more : OptionU64 → List ℕ → List ℕ
+abbrev pub more : Option ℕ → List ℕ → List ℕ
 more None bs = []
 more (Some b) bs = b ∷ bs
 
-abbrev pub ordered : (ℕ → OptionU64) → ℕ → ℕ → List ℕ
+abbrev pub ordered : (ℕ → Option ℕ) → ℕ → ℕ → List ℕ
 ordered byte o zero = []
 ordered byte o (suc n) = more (byte o) (ordered byte (suc o) n)
 
@@ -147,7 +145,7 @@ reading k n = record {
 }
 
 -- 3.2, "Data Read": with n bytes taken, all is
-abbrev pub is_all : OptionU64 → ℕ → Bool
+abbrev pub is_all : Option ℕ → ℕ → Bool
 is_all None n = false
 is_all (Some x) n = eqb x n
 

@@ -7,17 +7,10 @@
 -- where a rule is broken (`Refuses`).
 --
 -- In reading order: the calls and what they do, by the definitions that the contracts cite; what a buffer knows; which event a call is; the claims.
-use Rattle.std.specs.Prelude.{◌≡◌, ◌⊎◌, ◌↔◌, Bool, true, cond, List, [], ◌∷◌, ◌++◌, ℕ, ◌+◌, ◌≤◌, ◌<◌, ltb, eqb, length, take, drop, get_or}
-use Rattle.refusal.specs.Rules.{M, Told, success, told, told_count, told_emit, told_sizes}
-use Rattle.refusal.specs.declared.Answer.{Answer}
-use Rattle.refusal.specs.declared.Answer.TheVariants.{Refused}
-use Rattle.refusal.specs.declared.EmitAnswer.{EmitAnswer}
-use Rattle.refusal.specs.declared.EmitAnswer.TheVariants.{Emitted, Refused as NoBytes}
-use Rattle.refusal.specs.declared.SizesAnswer.TheVariants.{Refused as NoSizes}
+use Rattle.std.specs.Prelude.{◌≡◌, ◌⊎◌, ◌↔◌, Bool, true, cond, List, [], ◌∷◌, ◌++◌, ℕ, ◌+◌, ◌≤◌, ◌<◌, ltb, eqb, length, take, drop, get_or, Result, Ok, Err, Option, Some, None, ⊤}
 use Rattle.refusal.specs.declared.Refusal.{Refusal}
 use Rattle.refusal.specs.declared.Refusal.TheVariants.{Offset, FinalSize, FlowControl as OverLimit}
-use Rattle.refusal.specs.declared.OptionU64.{OptionU64}
-use Rattle.refusal.specs.declared.OptionU64.TheVariants.{None, Some}
+use Rattle.refusal.specs.Rules.{M, Told, success, told, told_count, told_emit, told_sizes}
 use Rattle.arena.specs.Rules.{held, byte_at}
 use Rattle.flowcontrol.specs.Rules.{next}
 use Rattle.recv_buf.specs.declared.RecvBuf.{RecvBuf}
@@ -52,12 +45,12 @@ view x = view_of x.buf
 
 -- a buffer as `new` gives it, with the arena that it is to be used with
 abbrev pub begin : ℕ → ℕ → List ℕ → Side
-begin limit maximum ar = side (created limit maximum (length ar)).buf ar []
+begin limit maximum ar = side (created limit maximum (length ar)).state ar []
 
 -- how many bytes an answer says were handed out
-abbrev pub count_of : EmitAnswer → ℕ
-count_of (Emitted n fin) = n
-count_of (NoBytes why) = 0
+abbrev pub count_of : Result (ℕ × Bool) Refusal → ℕ
+count_of (Ok (n, fin)) = n
+count_of (Err why) = 0
 
 -- what a call answers, by its number (RULES 2.1): 0 is a success
 abbrev pub answer : Side → Call → Told
@@ -71,15 +64,15 @@ answer x (tune now rtt) = success []
 
 -- and what is there after it. Of the output, the first `count` bytes were handed out; what a discard throws away is read off the arena
 abbrev pub step : Side → Call → Side
-step x (write s bytes fin) = side (written (view x) (length x.arena) s (length bytes) fin).buf (written_arena (view x) x.arena s bytes fin) x.out
+step x (write s bytes fin) = side (written (view x) (length x.arena) s (length bytes) fin).state (written_arena (view x) x.arena s bytes fin) x.out
 step x (emit out) =
     let e = emitted (view x) (length x.arena) (length out) in
-    side e.buf x.arena (x.out ++ take (count_of e.answer) (emitted_out (view x) x.arena out))
+    side e.state x.arena (x.out ++ take (count_of e.answer) (emitted_out (view x) x.arena out))
 step x (discard n) =
     let e = discarded (view x) n in
-    side e.buf x.arena (x.out ++ held x.arena (view x).off (count_of e.answer))
-step x (reset code size) = side (resets (view x) code size).buf x.arena x.out
-step x shutdown = side (shuts (view x)).buf x.arena x.out
+    side e.state x.arena (x.out ++ held x.arena (view x).off (count_of e.answer))
+step x (reset code size) = side (resets (view x) code size).state x.arena x.out
+step x shutdown = side (shuts (view x)).state x.arena x.out
 step x (commit now) = side (commits (view x) now) x.arena x.out
 step x (tune now rtt) = side (autotunes (view x) now rtt) x.arena x.out
 
@@ -91,7 +84,7 @@ run x (c ∷ cs) = run (step x c) cs
 -- ---- what a buffer knows; `ar` is its arena, and `out` are the bytes handed out so far
 
 -- the byte of offset o: handed out, or kept in the arena
-abbrev pub seen : Recv → List ℕ → List ℕ → ℕ → OptionU64
+abbrev pub seen : Recv → List ℕ → List ℕ → ℕ → Option ℕ
 seen r ar out o = cond (ltb o r.flow.consumed) (Some (get_or out o 0)) (cond (holds r.chunks o) (Some (byte_at ar o)) None)
 
 -- each part of the RFC's knowledge, where the buffer has it
@@ -164,37 +157,37 @@ pub record Agrees (k : Known) (es : List Event) (y : Side) : Type 0 where
 -- ---- the errors are the RFC's
 
 -- what a frame is answered
-abbrev pub given : Side → Frame → Answer
+abbrev pub given : Side → Frame → Result ⊤ Refusal
 given y f = (written (view y) (length y.arena) f.from (length f.bytes) f.fin).answer
 
 -- a buffer that refuses frames and resets as one who knows k has to
 pub record Refuses (k : Known) (y : Side) : Type 0 where
   -- 19.8
-  pub too_large : (f : Frame) → (given y f ≡ Refused Offset) ↔ TooLarge f
+  pub too_large : (f : Frame) → (given y f ≡ Err Offset) ↔ TooLarge f
   -- 4.1, of a frame with bytes or mark
-  pub flow : (f : Frame) → (TooLarge f → ⊥) → Tells f → (given y f ≡ Refused OverLimit) ↔ FlowControlError k f
+  pub flow : (f : Frame) → (TooLarge f → ⊥) → Tells f → (given y f ≡ Err OverLimit) ↔ FlowControlError k f
   -- 4.5
-  pub final : (f : Frame) → (TooLarge f → ⊥) → Tells f → (given y f ≡ Refused FinalSize) ↔ ((FlowControlError k f → ⊥) × FinalSizeError k f)
+  pub final : (f : Frame) → (TooLarge f → ⊥) → Tells f → (given y f ≡ Err FinalSize) ↔ ((FlowControlError k f → ⊥) × FinalSizeError k f)
   -- 4.5, of a RESET_STREAM
-  pub reset_final : (code size : ℕ) → size ≤ M → ((resets (view y) code size).answer ≡ NoSizes FinalSize) ↔ ResetSizeError k size
+  pub reset_final : (code size : ℕ) → size ≤ M → ((resets (view y) code size).answer ≡ Err FinalSize) ↔ ResetSizeError k size
   -- 4.1, of the first one
   pub reset_flow : (code size : ℕ) → size ≤ M
-      → ((resets (view y) code size).answer ≡ NoSizes OverLimit) ↔ ((ResetSizeError k size → ⊥) × (k.reset ≡ None) × ResetOver k size)
+      → ((resets (view y) code size).answer ≡ Err OverLimit) ↔ ((ResetSizeError k size → ⊥) × (k.reset ≡ None) × ResetOver k size)
 
 -- ---- a read takes the stream's next bytes
 
 pub record Reads (k : Known) (y : Side) : Type 0 where
   -- an emit hands out the next bytes of the ordered stream, as many as are known in a row and fit, and leaves the rest of the output;
   -- its mark says that all of the stream was taken
-  pub handed : (out : List ℕ) (count : ℕ) (ended : Bool) → (emitted (view y) (length y.arena) (length out)).answer ≡ Emitted count ended
+  pub handed : (out : List ℕ) (count : ℕ) (ended : Bool) → (emitted (view y) (length y.arena) (length out)).answer ≡ Ok (count, ended)
       → (emitted_out (view y) y.arena out ≡ available k (length out) ++ drop count out) × (count ≡ length (available k (length out)))
       × (ended ≡ is_all k.final (k.delivered + count))
   -- a discard counts the same
-  pub dropped : (n count : ℕ) (ended : Bool) → (discarded (view y) n).answer ≡ Emitted count ended
+  pub dropped : (n count : ℕ) (ended : Bool) → (discarded (view y) n).answer ≡ Ok (count, ended)
       → (count ≡ length (available k n)) × (ended ≡ is_all k.final (k.delivered + count))
   -- `readable_len` tells how many bytes that would be
   pub ahead : (most : ℕ) → readable (view y) most ≡ length (available k most)
   -- either is refused only if there is no next byte
   pub nothing : (n : ℕ) (why : Refusal)
-      → ((emitted (view y) (length y.arena) n).answer ≡ NoBytes why) ⊎ ((discarded (view y) n).answer ≡ NoBytes why)
+      → ((emitted (view y) (length y.arena) n).answer ≡ Err why) ⊎ ((discarded (view y) n).answer ≡ Err why)
       → (i : ℕ) → available k i ≡ []

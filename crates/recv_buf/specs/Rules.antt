@@ -8,25 +8,17 @@
 --
 -- Each call has its refusals, one named test to a line in the order of RULES 2.2, and apart from them its effect. Sums are whole numbers.
 -- `cond t x y` is x if the test t holds, else y.
-use Rattle.std.specs.Prelude.{Bool, true, false, cond, not, ◌&&◌, ◌||◌, List, [], ◌∷◌, ◌++◌, ℕ, suc, ◌+◌, ◌-◌, ◌%◌, min, max, ltb, leb, eqb, length, drop, set}
-use Rattle.refusal.specs.Rules.{M, after, known, is_at, is_other, fin_with, with_bytes, with_sizes}
-use Rattle.refusal.specs.declared.Answer.{Answer}
-use Rattle.refusal.specs.declared.Answer.TheVariants.{Done, Refused}
-use Rattle.refusal.specs.declared.CountAnswer.TheVariants.{Count, Refused as NoCount}
-use Rattle.refusal.specs.declared.EmitAnswer.TheVariants.{Refused as NoBytes}
+use Rattle.std.specs.Prelude.{Bool, true, false, cond, not, ◌&&◌, ◌||◌, List, [], ◌∷◌, ◌++◌, ℕ, suc, ◌+◌, ◌-◌, ◌%◌, min, max, ltb, leb, eqb, length, drop, set, Result, Ok, Err, Option, Some, None, ⊤}
 use Rattle.refusal.specs.declared.Refusal.TheVariants.{Offset, FinalSize, FlowControl as OverLimit, NoRoom, TableFull, Done as NothingReady, Reset, BadSetup}
-use Rattle.refusal.specs.declared.OptionU64.{OptionU64}
-use Rattle.refusal.specs.declared.OptionU64.TheVariants.{None, Some}
+use Rattle.refusal.specs.declared.Outcome.{Outcome}
+use Rattle.refusal.specs.declared.Refusal.{Refusal}
+use Rattle.refusal.specs.Rules.{M, after, known, is_at, is_other, fin_with, with_bytes, with_sizes}
 use Rattle.arena.specs.Rules.{held}
 use Rattle.range_buf.specs.declared.RangeBuf.{RangeBuf}
 use Rattle.range_buf.specs.Rules.{start, end, avail, fresh, used}
 use Rattle.flowcontrol.specs.declared.FlowControl.{FlowControl}
 use Rattle.flowcontrol.specs.Rules.{fresh as new_flow, with_consumed, due, committed, autotuned}
 use Rattle.recv_buf.specs.declared.RecvBuf.{RecvBuf}
-use Rattle.recv_buf.specs.declared.Outcome.{Outcome}
-use Rattle.recv_buf.specs.declared.CountOutcome.{CountOutcome}
-use Rattle.recv_buf.specs.declared.EmitOutcome.{EmitOutcome}
-use Rattle.recv_buf.specs.declared.SizesOutcome.{SizesOutcome}
 use Rattle.recv_buf.specs.State.{Recv, buf_of}
 
 -- ---- what several calls share
@@ -37,21 +29,17 @@ other_arena r a = eqb a 0 || not (eqb a r.room)
 
 -- other chunks; another end of what was handed out, highest end and final size; another window
 abbrev pub with_chunks : Recv → List RangeBuf → Recv
-with_chunks r chunks =
-    record { room = r.room; chunks = chunks; off = r.off; len = r.len; flow = r.flow; fin = r.fin; error = r.error; drain = r.drain }
+with_chunks r chunks = record r { chunks = chunks }
 
-abbrev pub with_ends : Recv → ℕ → ℕ → OptionU64 → Recv
-with_ends r off len fin =
-    record { room = r.room; chunks = r.chunks; off = off; len = len; flow = r.flow; fin = fin; error = r.error; drain = r.drain }
+abbrev pub with_ends : Recv → ℕ → ℕ → Option ℕ → Recv
+with_ends r off len fin = record r { off = off; len = len; fin = fin }
 
 abbrev pub with_flow : Recv → FlowControl → Recv
-with_flow r flow =
-    record { room = r.room; chunks = r.chunks; off = r.off; len = r.len; flow = flow; fin = r.fin; error = r.error; drain = r.drain }
+with_flow r flow = record r { flow = flow }
 
 -- the code of a reset, and shut down or not
-abbrev pub with_closed : Recv → OptionU64 → Bool → Recv
-with_closed r error drain =
-    record { room = r.room; chunks = r.chunks; off = r.off; len = r.len; flow = r.flow; fin = r.fin; error = error; drain = drain }
+abbrev pub with_closed : Recv → Option ℕ → Bool → Recv
+with_closed r error drain = record r { error = error; drain = drain }
 
 -- ---- creation
 
@@ -65,15 +53,15 @@ abbrev pub bad_numbers : ℕ → ℕ → ℕ → Bool
 bad_numbers limit maximum A = eqb A 0 || ltb 65536 A || ltb M limit || ltb M maximum
 
 -- `new`. With a refusal comes a dead buffer: it is for an arena of no bytes, so every call that takes an arena answers BadSetup
-unfoldable pub created : ℕ → ℕ → ℕ → Outcome
+unfoldable pub created : ℕ → ℕ → ℕ → Outcome ⊤ RecvBuf
 created limit maximum A =
-    cond (bad_numbers limit maximum A) (record { answer = Refused BadSetup; buf = buf_of (new_recv 0 0 0) })
-    (record { answer = Done; buf = buf_of (new_recv A limit maximum) })
+    cond (bad_numbers limit maximum A) (record { answer = Err BadSetup; state = buf_of (new_recv 0 0 0) })
+    (record { answer = Ok tt; state = buf_of (new_recv A limit maximum) })
 
 -- ---- write: a frame of n bytes at s, so that it ends at e = s + n, marked as the end or not
 
 -- F is known and e > F, or F is known and the frame is marked with e ≠ F, or marked with e < len
-abbrev pub passes_final : OptionU64 → ℕ → ℕ → Bool → Bool
+abbrev pub passes_final : Option ℕ → ℕ → ℕ → Bool → Bool
 passes_final None len e fin = fin && ltb e len
 passes_final (Some f) len e fin = ltb f e || fin && not (eqb e f) || fin && ltb e len
 
@@ -113,15 +101,15 @@ abbrev pub no_entry : Recv → ℕ → ℕ → Bool → Bool
 no_entry r s n fin = not r.drain && ltb 64 (length (chunks_after r s n fin))
 
 -- the refusals, for an arena of a bytes
-unfoldable pub write_judged : Recv → ℕ → ℕ → ℕ → Bool → Answer
+unfoldable pub write_judged : Recv → ℕ → ℕ → ℕ → Bool → Result ⊤ Refusal
 write_judged r a s n fin =
-    cond (other_arena r a) (Refused BadSetup) (
-    cond (ltb M (s + n)) (Refused Offset) (
-    cond (ltb r.flow.max_data (s + n)) (Refused OverLimit) (
-    cond (passes_final r.fin r.len (s + n) fin) (Refused FinalSize) (
-    cond (no_room r s n) (Refused NoRoom) (
-    cond (no_entry r s n fin) (Refused TableFull) (
-    Done))))))
+    cond (other_arena r a) (Err BadSetup) (
+    cond (ltb M (s + n)) (Err Offset) (
+    cond (ltb r.flow.max_data (s + n)) (Err OverLimit) (
+    cond (passes_final r.fin r.len (s + n) fin) (Err FinalSize) (
+    cond (no_room r s n) (Err NoRoom) (
+    cond (no_entry r s n fin) (Err TableFull) (
+    Ok tt))))))
 
 -- the effect. A frame without bytes or mark changes nothing. After shutdown nothing is kept, and off becomes len
 unfoldable pub wrote : Recv → ℕ → ℕ → Bool → Recv
@@ -142,10 +130,10 @@ kept_new r ar o [] = ar
 kept_new r ar o (b ∷ bs) = kept_new r (cond (leb r.off o && not (holds r.chunks o)) (set ar (o % length ar) b) ar) (suc o) bs
 
 -- `write`: its answer and state; and the arena after it
-unfoldable pub written : Recv → ℕ → ℕ → ℕ → Bool → Outcome
+unfoldable pub written : Recv → ℕ → ℕ → ℕ → Bool → Outcome ⊤ RecvBuf
 written r a s n fin =
     let said = write_judged r a s n fin in
-    record { answer = said; buf = buf_of (after said (wrote r s n fin) r) }
+    record { answer = said; state = buf_of (after said (wrote r s n fin) r) }
 
 unfoldable pub written_arena : Recv → List ℕ → ℕ → List ℕ → Bool → List ℕ
 written_arena r ar s bytes fin =
@@ -173,17 +161,17 @@ abbrev pub takes : Recv → ℕ → ℕ
 takes r n = taken r.chunks r.off n
 
 -- after a reset, its code
-abbrev pub unless_reset : OptionU64 → Answer → Answer
+abbrev pub unless_reset : Option ℕ → Result ⊤ Refusal → Result ⊤ Refusal
 unless_reset None x = x
-unless_reset (Some code) x = Refused (Reset code)
+unless_reset (Some code) x = Err (Reset code)
 
 -- the refusals, the arena's apart
-unfoldable pub take_judged : Recv → ℕ → Answer
+unfoldable pub take_judged : Recv → ℕ → Result ⊤ Refusal
 take_judged r n =
-    cond (not (is_ready r.chunks r.off)) (Refused NothingReady) (
+    cond (not (is_ready r.chunks r.off)) (Err NothingReady) (
     unless_reset r.error (
-    cond (ltb M (r.flow.consumed + takes r n)) (Refused Offset) (
-    Done)))
+    cond (ltb M (r.flow.consumed + takes r n)) (Err Offset) (
+    Ok tt)))
 
 -- the effect: the count goes to `off` and to consumed
 unfoldable pub took_out : Recv → ℕ → Recv
@@ -196,14 +184,14 @@ abbrev pub refused_take : Recv → Recv
 refused_take r = cond (is_ready r.chunks r.off && known r.error) (with_chunks r []) r
 
 -- `discard`: the same as an emit, with no output and no arena. The answer: the count, and whether off = F
-unfoldable pub discarded : Recv → ℕ → EmitOutcome
+unfoldable pub discarded : Recv → ℕ → Outcome (ℕ × Bool) RecvBuf
 discarded r n =
     let said = take_judged r n in
-    record { answer = with_bytes said (takes r n) (is_at r.fin (r.off + takes r n)); buf = buf_of (after said (took_out r n) (refused_take r)) }
+    record { answer = with_bytes said (takes r n) (is_at r.fin (r.off + takes r n)); state = buf_of (after said (took_out r n) (refused_take r)) }
 
 -- `emit`: BadSetup comes first
-unfoldable pub emitted : Recv → ℕ → ℕ → EmitOutcome
-emitted r a n = cond (other_arena r a) (record { answer = NoBytes BadSetup; buf = buf_of r }) (discarded r n)
+unfoldable pub emitted : Recv → ℕ → ℕ → Outcome (ℕ × Bool) RecvBuf
+emitted r a n = cond (other_arena r a) (record { answer = Err BadSetup; state = buf_of r }) (discarded r n)
 
 -- the output after it: the bytes from off on, and the rest as it was
 unfoldable pub emitted_out : Recv → List ℕ → List ℕ → List ℕ
@@ -222,12 +210,12 @@ abbrev pub over_limit : Recv → ℕ → Bool
 over_limit r size = not (known r.error) && ltb r.flow.max_data size
 
 -- the refusals
-unfoldable pub reset_judged : Recv → ℕ → Answer
+unfoldable pub reset_judged : Recv → ℕ → Result ⊤ Refusal
 reset_judged r size =
-    cond (ltb M size) (Refused Offset) (
-    cond (bad_size r size) (Refused FinalSize) (
-    cond (over_limit r size) (Refused OverLimit) (
-    Done)))
+    cond (ltb M size) (Err Offset) (
+    cond (bad_size r size) (Err FinalSize) (
+    cond (over_limit r size) (Err OverLimit) (
+    Ok tt)))
 
 -- the effect: the chunks go, off, len and F are the size, and an empty chunk there tells the reader, or none after shutdown
 unfoldable pub was_reset : Recv → ℕ → ℕ → Recv
@@ -236,19 +224,19 @@ was_reset r code size =
     (with_closed (with_ends (with_chunks r (cond r.drain [] (fresh size 0 ∷ []))) size size (Some size)) (Some code) r.drain)
 
 -- `reset`: the answer is how far the size is above len, and above off
-unfoldable pub resets : Recv → ℕ → ℕ → SizesOutcome
+unfoldable pub resets : Recv → ℕ → ℕ → Outcome (ℕ × ℕ) RecvBuf
 resets r code size =
     let said = reset_judged r size in
     record {
       answer = with_sizes said (cond (known r.error) 0 (size - r.len)) (cond (known r.error) 0 (size - r.off));
-      buf = buf_of (after said (was_reset r code size) r);
+      state = buf_of (after said (was_reset r code size) r);
     }
 
 -- `shutdown`: once. It drops the chunks, and off becomes len
-unfoldable pub shuts : Recv → CountOutcome
+unfoldable pub shuts : Recv → Outcome ℕ RecvBuf
 shuts r =
-    cond r.drain (record { answer = NoCount NothingReady; buf = buf_of r })
-    (record { answer = Count (r.len - r.off); buf = buf_of (with_closed (with_ends (with_chunks r []) r.len r.len r.fin) r.error true) })
+    cond r.drain (record { answer = Err NothingReady; state = buf_of r })
+    (record { answer = Ok (r.len - r.off); state = buf_of (with_closed (with_ends (with_chunks r []) r.len r.len r.fin) r.error true) })
 
 -- ---- the window, and what is asked
 

@@ -1,9 +1,7 @@
 -- A receive buffer as numbers and lists, the struct that holds them, and what every buffer is that came from creation or a call.
-use Rattle.std.specs.Prelude.{◌≡◌, ◌⊎◌, Bool, true, List, [], ◌∷◌, ℕ, ◌+◌, ◌≤◌, ◌<◌, length, take}
+use Rattle.std.specs.Prelude.{◌≡◌, ◌⊎◌, Bool, true, List, [], ◌∷◌, ℕ, ◌+◌, ◌≤◌, ◌<◌, length, take, Option, Some}
 use Rattle.tables.specs.Lists.{table_of}
 use Rattle.refusal.specs.Rules.{M}
-use Rattle.refusal.specs.declared.OptionU64.{OptionU64}
-use Rattle.refusal.specs.declared.OptionU64.TheVariants.{Some}
 use Rattle.range_buf.specs.declared.RangeBuf.{RangeBuf}
 use Rattle.range_buf.specs.Rules.{start, end, zero_buf}
 use Rattle.flowcontrol.specs.declared.FlowControl.{FlowControl}
@@ -16,8 +14,8 @@ pub record Recv : Type 0 where
   pub off : ℕ  -- how far was handed out
   pub len : ℕ  -- the highest end seen
   pub flow : FlowControl
-  pub fin : OptionU64  -- the final size F, once known
-  pub error : OptionU64  -- the code of a reset
+  pub fin : Option ℕ  -- the final size F, once known
+  pub error : Option ℕ  -- the code of a reset
   pub drain : Bool  -- shut down
 
 -- what a buffer holds

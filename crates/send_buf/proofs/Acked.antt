@@ -1,4 +1,5 @@
 -- The laws of the acked ranges: how far they reach, and that the set stays in order and within its capacity. Assumes nothing.
+use Rattle.std.specs.List.{filter}
 use mathlib.Core.Path.{◌≡◌, refl, ap, ap₂, ◌∙◌}
 use mathlib.Core.Bool.{Bool, false}
 use mathlib.Core.List.{List, [], ◌∷◌, ◌++◌}
@@ -7,7 +8,6 @@ use native.Mathlib.Omega.{arith}
 use borrow.Author.Tests.{le-ltb, le-leb}
 use lib.Dec.{eqb}
 use lib.ListN.{length}
-use Rattle.tables.specs.Lists.{filter_by}
 use Rattle.tables.proofs.Tables.{cond_elim}
 use Rattle.ranges.specs.declared.Range.{Range}
 use Rattle.ranges.specs.State.{Sorted, Good, set_of, upto}
@@ -23,7 +23,7 @@ pub upto_weak : (h h' : ℕ) (l : List Range) → h ≤ h' → Upto h l → Upto
 upto_weak h h' [] a k = tt
 upto_weak h h' (r ∷ rs) a k = (omega arith, upto_weak h h' rs a k.1)
 
-upto_filter : (h : ℕ) (p : Range → Bool) (l : List Range) → Upto h l → Upto h (filter_by p l)
+upto_filter : (h : ℕ) (p : Range → Bool) (l : List Range) → Upto h l → Upto h (filter p l)
 upto_filter h p [] k = tt
 upto_filter h p (r ∷ rs) k = cond_elim (Upto h) (p r) (λ _. (k.0, upto_filter h p rs k.1)) (λ _. upto_filter h p rs k.1)
 
@@ -37,9 +37,9 @@ upto_hull h x (r ∷ rs) e k = upto_hull h (hull2 x r) rs (omega arith) k.1
 
 pub upto_placed : (h : ℕ) (x : Range) (l : List Range) → x.end ≤ h → Upto h l → Upto h (placed x l)
 upto_placed h x l e k =
-    upto_append h (filter_by (ends_below x) l) (hull x (filter_by (joins x) l) ∷ filter_by (starts_above x) l)
+    upto_append h (filter (ends_below x) l) (hull x (filter (joins x) l) ∷ filter (starts_above x) l)
     (upto_filter h (ends_below x) l k)
-    (upto_hull h x (filter_by (joins x) l) e (upto_filter h (joins x) l k), upto_filter h (starts_above x) l k)
+    (upto_hull h x (filter (joins x) l) e (upto_filter h (joins x) l k), upto_filter h (starts_above x) l k)
 
 -- contiguous ack reaches no further
 pub ack_upto : (h : ℕ) (l : List Range) → Upto h l → ack_off l ≤ h
@@ -49,7 +49,7 @@ ack_upto h (r ∷ rs) k = cond_elim (λ (n : ℕ). n ≤ h) (eqb r.start 0) (λ 
 -- ---- a range that enters
 
 module _ (x : Range) (l : List Range) (ok : x.start ≤ x.end) (s : Sorted 0 l) (few : length l ≤ 64) (room : needs_room 64 x l ≡ false) where
-  placed_set : (tried (set_of 64 l) x).set ≡ set_of 64 (placed x l)
+  placed_set : (tried (set_of 64 l) x).state ≡ set_of 64 (placed x l)
   placed_set = simp (ranges_of 64 l, le-ltb _ _ ok, room)
 
   placed_good : Good (set_of 64 (placed x l))
@@ -63,15 +63,15 @@ module _ (x : Range) (l : List Range) (ok : x.start ≤ x.end) (s : Sorted 0 l) 
 
 -- ---- 0..h swallows every range up to h
 
-none_below : (h : ℕ) (l : List Range) → filter_by (ends_below (upto 0 h)) l ≡ []
+none_below : (h : ℕ) (l : List Range) → filter (ends_below (upto 0 h)) l ≡ []
 none_below h [] = refl
 none_below h (r ∷ rs) = simp (le-ltb r.end 0 zero-le) (none_below h rs)
 
-none_above : (h lo : ℕ) (l : List Range) → Sorted lo l → Upto h l → filter_by (starts_above (upto 0 h)) l ≡ []
+none_above : (h lo : ℕ) (l : List Range) → Sorted lo l → Upto h l → filter (starts_above (upto 0 h)) l ≡ []
 none_above h lo [] s k = refl
 none_above h lo (r ∷ rs) s k = let e : r.start ≤ h = omega arith in simp (le-ltb h r.start e) (none_above h _ rs s.2 k.1)
 
-all_join : (h lo : ℕ) (l : List Range) → Sorted lo l → Upto h l → filter_by (joins (upto 0 h)) l ≡ l
+all_join : (h lo : ℕ) (l : List Range) → Sorted lo l → Upto h l → filter (joins (upto 0 h)) l ≡ l
 all_join h lo [] s k = refl
 all_join h lo (r ∷ rs) s k =
     let e : r.start ≤ h = omega arith in

@@ -1,5 +1,6 @@
 -- What a buffer answers after a reset, and so after `stop` and `shutdown`: it is complete, has nothing to send but the end mark, and takes no
 -- write but an empty marked one; a second reset changes nothing. Assumes nothing.
+use Rattle.std.specs.Prelude.{Option, Some}
 use mathlib.Core.Path.{◌≡◌, refl, sym, ap, ◌∙◌}
 use mathlib.Core.Logic.{◌⊎◌}
 use mathlib.Core.Bool.{Bool, true, false, or-true, and-false}
@@ -7,8 +8,6 @@ use mathlib.Core.List.{List, [], ◌∷◌}
 use Prim.Native.Nat.{ℕ, ◌+◌, ◌-◌, ◌<◌, max, zero-le}
 use native.Mathlib.Omega.{arith}
 use borrow.Author.Tests.{lt-ltb, le-ltb, eq-eqb}
-use Rattle.refusal.specs.declared.OptionU64.{OptionU64}
-use Rattle.refusal.specs.declared.OptionU64.TheVariants.{Some}
 use Rattle.tables.proofs.Tables.{cases}
 use Rattle.ranges.specs.declared.Range.{Range}
 use Rattle.ranges.specs.State.{upto}
@@ -33,7 +32,7 @@ module _ (s : Send) (g : GoodSend s) where
   pub reset_complete : is_complete (was_reset s) ≡ true
   reset_complete =
       ap (λ (t : List Range). complete_at (was_reset s).fin t) reset_acked
-      ∙ ap (λ (f : OptionU64). complete_at f (upto 0 s.emitted ∷ [])) reset_final
+      ∙ ap (λ (f : Option ℕ). complete_at f (upto 0 s.emitted ∷ [])) reset_final
       ∙ simp (eq-eqb s.emitted s.emitted refl)
 
   -- an emit, at any room: no byte, and the end mark

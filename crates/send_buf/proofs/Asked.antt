@@ -1,4 +1,5 @@
 -- What the getters find: the lowest acked range, and the first chunk that still holds bytes. Assumes nothing.
+use Rattle.std.specs.Prelude.{Some, None}
 use Prim.Native.Nat.{◌+◌, ◌<◌, ◌≤◌, suc, ℕ}
 use Rattle.range_buf.specs.Rules.{avail, start, zero_buf}
 use Rattle.range_buf.specs.declared.RangeBuf.{RangeBuf}
@@ -17,16 +18,15 @@ use mathlib.Core.Bool.{cond}
 use mathlib.Core.List.{List, [], ◌∷◌}
 use mathlib.Core.Path.{◌∙◌, ◌≡◌, ap, refl}
 use native.Mathlib.Omega.{arith}
-use Rattle.ranges.specs.declared.OptionRange.TheVariants.{None as NoRange, Some as SomeRange}
 
 -- contiguous ack by the lowest range
-pub ack_none : (l : List Range) → range_at 0 l ≡ NoRange → ack_off l ≡ 0
+pub ack_none : (l : List Range) → range_at 0 l ≡ None → ack_off l ≡ 0
 ack_none [] e = refl
-ack_none (r ∷ rs) e = let h : SomeRange r ≡ NoRange = simp (lt-ltb 0 (suc (length rs)) (omega arith)) at e in let z : ◌≡◌ {A = ℕ} 0 1 = cc in absurd (omega arith)
+ack_none (r ∷ rs) e = let h : Some r ≡ None = simp (lt-ltb 0 (suc (length rs)) (omega arith)) at e in let z : ◌≡◌ {A = ℕ} 0 1 = cc in absurd (omega arith)
 
-pub ack_some : (l : List Range) (r : Range) → range_at 0 l ≡ SomeRange r → ack_off l ≡ cond (eqb r.start 0) r.end 0
+pub ack_some : (l : List Range) (r : Range) → range_at 0 l ≡ Some r → ack_off l ≡ cond (eqb r.start 0) r.end 0
 ack_some [] r e = let z : ◌≡◌ {A = ℕ} 0 1 = cc in absurd (omega arith)
-ack_some (q ∷ rs) r e = let k : SomeRange q ≡ SomeRange r = simp (lt-ltb 0 (suc (length rs)) (omega arith)) at e in let h : q ≡ r = cc in ap (λ (x : Range). cond (eqb x.start 0) x.end 0) h
+ack_some (q ∷ rs) r e = let k : Some q ≡ Some r = simp (lt-ltb 0 (suc (length rs)) (omega arith)) at e in let h : q ≡ r = cc in ap (λ (x : Range). cond (eqb x.start 0) x.end 0) h
 
 -- the front offset by what is left at the first chunk that still holds bytes
 pub front_none : (l : List RangeBuf) (off : ℕ) → drop (skipped l) l ≡ [] → front_of l off ≡ off
@@ -44,16 +44,6 @@ front_some (c ∷ cs) off d ds e =
     (λ t. simp (le-ltb _ _ t) (front_some cs off d ds (simp (le-ltb _ _ t) at e)))
 
 module _ (b : SendBuf) (g : Good b) where
-  -- a scan for the first chunk that still holds bytes: it goes on, it ends at a chunk, it ends behind the last
-  pub skip_on : (i : ℕ) → i < b.count → avail (get_or b.«data» i zero_buf) ≤ 0 → skipped (drop i (view_of b).chunks) ≡ suc (skipped (drop (i + 1) (view_of b).chunks))
-  skip_on i h e = rw (next b g i h) (simp (le-ltb _ _ e))
-
-  pub skip_here : (i : ℕ) → i < b.count → 0 < avail (get_or b.«data» i zero_buf) → skipped (drop i (view_of b).chunks) ≡ 0
-  skip_here i h e = rw (next b g i h) (simp (lt-ltb _ _ e))
-
-  pub skip_end : (i : ℕ) → b.count ≤ i → skipped (drop i (view_of b).chunks) ≡ 0
-  skip_end i h = rw (done b g i h)
-
   -- what is left from the first chunk on that still holds bytes
   pub from_first : drop (skipped (drop b.pos (view_of b).chunks)) (drop b.pos (view_of b).chunks) ≡ drop (first (view_of b)) (view_of b).chunks
   from_first = drop-drop (skipped (drop b.pos (view_of b).chunks)) b.pos (view_of b).chunks

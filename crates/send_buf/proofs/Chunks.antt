@@ -1,10 +1,14 @@
 -- The laws of the send buffer's chunk lists: chunks go on adjoining, and their count and the bytes they hold are known, after every call.
 -- Assumes nothing.
-use mathlib.Core.Path.{◌≡◌, refl, sym, ap, subst, subst₂}
+use mathlib.Core.Path.{◌≡◌, refl, sym, ap, subst, subst₂, ◌∙◌}
 use mathlib.Core.Bool.{◌&&◌}
 use mathlib.Core.List.{List, [], ◌∷◌, ◌++◌}
 use Prim.Native.Nat.{ℕ, zero, suc, ◌+◌, ◌-◌, ◌*◌, ◌≤◌, ◌<◌, min}
 use native.Mathlib.Omega.{arith}
+use Rattle.std.specs.List.{prefix_len, take_while, sum_by}
+use Rattle.std.proofs.lemmas.List.Folds.{length-prefix_len}
+use Rattle.std.proofs.lemmas.List.Sums.{sum_by-cons}
+use Rattle.send_buf.specs.Steps.{gone_by}
 use lib.Dec.{ltb, leb, eqb}
 use lib.ListN.{length, take, drop}
 use borrow.Author.Tests.{ltb-true, leb-false, eqb-true, lt-ltb, le-ltb, le-leb, lt-leb}
@@ -24,6 +28,10 @@ advanced_from i cs next n = take i cs ++ advanced (drop i cs) next n
 pub adj_le : (lo : ℕ) (cs : List RangeBuf) (hi : ℕ) → Adjoin lo cs hi → lo ≤ hi
 adj_le lo [] hi k = omega arith
 adj_le lo (c ∷ cs) hi k = omega (arith, adj_le (end c) cs hi k.3)
+
+pub total_le : (lo : ℕ) (l : List RangeBuf) (hi : ℕ) → Adjoin lo l hi → total l + lo ≤ hi
+total_le lo [] hi a = omega (arith, a)
+total_le lo (c ∷ l) hi a = omega (arith, a.0, total_le (end c) l hi a.3)
 
 pub adj_base : (lo : ℕ) (cs : List RangeBuf) (hi : ℕ) → Adjoin lo cs hi → base cs hi ≡ lo
 adj_base lo [] hi k = sym k
@@ -74,6 +82,18 @@ pub front_in : (i lo : ℕ) (cs : List RangeBuf) (hi : ℕ) → Adjoin lo cs hi 
 front_in zero lo cs hi k = front_within lo cs hi k
 front_in (suc i) lo [] hi k = (omega arith, omega arith)
 front_in (suc i) lo (c ∷ cs) hi k = let h = front_in i (end c) cs hi k.3 in (omega arith, h.1)
+
+-- the leading chunks that end at or below an offset, and the bytes held, as chains count them
+count_prefix : (cs : List RangeBuf) (k : ℕ) → prefix_len (gone_by k) cs ≡ drop_count cs k
+count_prefix [] k = refl
+count_prefix (c ∷ cs) k = by_test (leb (end c) k) (λ e. simp e (omega (arith, count_prefix cs k))) (λ e. simp e)
+
+pub drop_count_is : (cs : List RangeBuf) (k : ℕ) → length (take_while (gone_by k) cs) ≡ drop_count cs k
+drop_count_is cs k = length-prefix_len (gone_by k) cs ∙ count_prefix cs k
+
+pub total_is : (cs : List RangeBuf) → sum_by avail cs ≡ total cs
+total_is [] = refl
+total_is (c ∷ cs) = sum_by-cons avail c cs ∙ ap (λ (n : ℕ). avail c + n) (total_is cs)
 
 pub skipped_le : (cs : List RangeBuf) → skipped cs ≤ length cs
 skipped_le [] = omega arith

@@ -1,23 +1,20 @@
 -- The loop that copies bytes out: to copy on from here gives what the contract says. Assumes nothing.
+use Rattle.std.specs.Prelude.{Result, Ok, Err, Option, Some, None, ⊤}
+use Rattle.std.specs.Option.{option_eq}
 use Prim.Native.Nat.{◌+◌, ◌-◌, ◌<◌, ◌≤◌, min, suc, ℕ}
 use Rattle.arena.specs.Rules.{held}
 use Rattle.range_buf.specs.Rules.{avail, consumed, end, start, used, zero_buf}
 use Rattle.range_buf.specs.declared.RangeBuf.{RangeBuf}
 use Rattle.refusal.specs.Rules.{M, is_at}
-use Rattle.refusal.specs.declared.Answer.TheVariants.{Done}
-use Rattle.refusal.specs.declared.CountAnswer.{CountAnswer}
-use Rattle.refusal.specs.declared.CountAnswer.TheVariants.{Count}
 use Rattle.send_buf.proofs.Chunks.{advanced_none, copied_none, total_sent}
 use Rattle.send_buf.proofs.Facts.{front_high, reached}
-use Rattle.send_buf.proofs.Good.{acked_is, chunk_good, chunk_in, chunks_length, few, made, next, table}
+use Rattle.send_buf.proofs.Good.{acked_is, chunk_good, chunk_in, chunks_length, few, made, next, set_table, table}
 use Rattle.send_buf.specs.Rules.{advanced, copied, emit_count, emitted, emitted_out, finished, first, front, other_arena, sent, with_queue}
 use Rattle.send_buf.specs.State.{Good, GoodSend, Send, buf_of, view_of}
-use Rattle.send_buf.specs.Steps.{chunks_after, copied_out, out_after, sent_to, set_table}
-use Rattle.send_buf.specs.declared.EmitOutcome.{EmitOutcome}
+use Rattle.send_buf.specs.Steps.{chunks_after, copied_out, out_after, sent_to}
 use Rattle.send_buf.specs.declared.SendBuf.{SendBuf}
 use Rattle.tables.specs.Lists.{table_of}
 use borrow.Author.Tests.{eq-eqb, eqb-true, le-leb, lt-leb, lt-ltb, ltb-true}
-use denote.Enum.Declared.{tag_of}
 use lib.Dec.{eqb, ltb}
 use lib.ListN.{drop, get_or, length, length-append, length-drop, length-set, replicate, set, take, take-append-drop}
 use lib.Seq.{drop_at, drop-cons, drop-drop, length-take-le, set_split, take-suc-set}
@@ -27,13 +24,7 @@ use mathlib.Core.Path.{◌∙◌, ◌≡◌, ap, refl, subst, sym}
 use native.Mathlib.Nat.{add-zero, zero-add}
 use native.Mathlib.Numerals.{add-one}
 use native.Mathlib.Omega.{arith}
-use types.Run.{OneOf}
-use Rattle.refusal.specs.contracts.CountAnswer.{the_type}
-use Rattle.refusal.specs.declared.CountAnswer.TheVariants.{Refused as NoCount}
-use Rattle.refusal.specs.declared.EmitAnswer.TheVariants.{Emitted, Refused as NoBytes}
 use Rattle.refusal.specs.declared.Refusal.TheVariants.{BadSetup}
-use Rattle.range_buf.specs.declared.Outcome.{Outcome as ChunkOutcome}
-use Rattle.send_buf.specs.declared.Copied.{Copied}
 use Rattle.send_buf.proofs.Good.{done as behind}
 use lib.Seq.{drop-append-le}
 use borrow.Rule.Slice.PartMut.{put_mid}
@@ -44,6 +35,8 @@ use Rattle.range_buf.proofs.Kept.{consumed_in}
 use Rattle.range_buf.specs.State.{Good as GoodChunk}
 use Rattle.send_buf.proofs.Good.{slots as table_slots}
 use Rattle.tables.proofs.Tests.{and_true}
+use Rattle.refusal.specs.declared.Outcome.{Outcome}
+use Rattle.refusal.specs.declared.Refusal.{Refusal}
 
 -- ---- the loop
 
@@ -74,10 +67,10 @@ none_left : (n a : ℕ) → n < a → n - a ≡ 0
 none_left n a h = omega arith
 
 -- a chunk is consumed by no more than it has left
-pub ate : (c : RangeBuf) (k : ℕ) (o : ChunkOutcome) → k ≤ avail c → o ≡ consumed c k → (o.answer ≡ Done) × (o.buf ≡ used c k)
+pub ate : (c : RangeBuf) (k : ℕ) (o : Outcome ⊤ RangeBuf) → k ≤ avail c → o ≡ consumed c k → (o.answer ≡ Ok tt) × (o.state ≡ used c k)
 ate c k o h e =
     let f = e ∙ consumed_in c k h in
-    (ap (λ (x : ChunkOutcome). x.answer) f, ap (λ (x : ChunkOutcome). x.buf) f)
+    (ap (λ (x : Outcome ⊤ RangeBuf). x.answer) f, ap (λ (x : Outcome ⊤ RangeBuf). x.state) f)
 
 finished_none : (l : List RangeBuf) (o n : ℕ) → n ≡ 0 → finished l o n ≡ 0
 finished_none [] o n e = refl
@@ -273,29 +266,29 @@ module _ (ar out₀ : List ℕ) (b : SendBuf) (g : Good b) where
         sym (take-append-drop j t.«data») ∙ ap (λ (x : List RangeBuf). take j t.«data» ++ x) d ∙ sym (append_assoc (take j t.«data») (drop j l) z)
         ∙ ap (λ (x : List RangeBuf). x ++ z) after_list ∙ ap (λ (k : ℕ). chunks_after (view_of b) (length out₀) ++ replicate k zero_buf) q
 
-    pub emit_ends : (◌≡◌ {A = Copied} (record { answer = Count done; at = i; buf = t }) (copied_out (view_of b) (length out₀))) × (out ≡ out_after (view_of b) ar out₀)
+    pub emit_ends : (◌≡◌ {A = Outcome (ℕ × ℕ) SendBuf} (record { answer = Ok (done, i); state = t }) (copied_out (view_of b) (length out₀))) × (out ≡ out_after (view_of b) ar out₀)
     unfolding copied_out
     emit_ends =
         let n : done ≡ emit_count (view_of b) (length out₀) = omega (arith, m.counts, none) in
         let x : i ≡ first (view_of b) + finished (drop (first (view_of b)) (view_of b).chunks) (front (view_of b)) (length out₀) = omega (arith, m.index, up) in
         let y : t ≡ buf_of (with_queue (view_of b) (chunks_after (view_of b) (length out₀)) b.pos b.buffered_bytes) =
         m.same ∙ made (with_queue (view_of b) (chunks_after (view_of b) (length out₀)) b.pos b.buffered_bytes) t.«data» b.count b.acked after_table (sym after_length) (acked_is b g) in
-        (λ p. record { answer = Count (n p); at = x p; buf = y p }, m.bytes ∙ ap (λ (k : ℕ). held ar (front (view_of b)) k ++ drop k out₀) n)
+        (λ p. record { answer = Ok (n p, x p); state = y p }, m.bytes ∙ ap (λ (k : ℕ). held ar (front (view_of b)) k ++ drop k out₀) n)
 
   -- behind the last chunk; at one that does not go on; the output is full
   pub ends_behind : (out : List ℕ) (t : SendBuf) (i done : ℕ) → Emitting ar out₀ b out t i i done → b.count ≤ i
-      → (◌≡◌ {A = Copied} (record { answer = Count done; at = i; buf = t }) (copied_out (view_of b) (length out₀))) × (out ≡ out_after (view_of b) ar out₀)
+      → (◌≡◌ {A = Outcome (ℕ × ℕ) SendBuf} (record { answer = Ok (done, i); state = t }) (copied_out (view_of b) (length out₀))) × (out ≡ out_after (view_of b) ar out₀)
   ends_behind out t i done m h = let e = behind b g i h in emit_ends out t i i done m (rw e) (rw e) (rw e)
 
   pub ends_apart : (out : List ℕ) (t : SendBuf) (i done : ℕ) → Emitting ar out₀ b out t i i done → i < b.count
       → (ltb 0 (length out - done) && eqb (start (get_or t.«data» i zero_buf)) (front (view_of b) + done)) ≡ false
-      → (◌≡◌ {A = Copied} (record { answer = Count done; at = i; buf = t }) (copied_out (view_of b) (length out₀))) × (out ≡ out_after (view_of b) ar out₀)
+      → (◌≡◌ {A = Outcome (ℕ × ℕ) SendBuf} (record { answer = Ok (done, i); state = t }) (copied_out (view_of b) (length out₀))) × (out ≡ out_after (view_of b) ar out₀)
   ends_apart out t i done m low e =
       let f : (ltb 0 (length out₀ - done) && eqb (start (get_or b.«data» i zero_buf)) (front (view_of b) + done)) ≡ false = rw (m.long, entry_same out t i done m low) at e in
       emit_ends out t i i done m (rw (next b g i low, f)) (rw (next b g i low, f)) (rw (next b g i low, f))
 
   pub ends_full : (out : List ℕ) (t : SendBuf) (j i done : ℕ) → Emitting ar out₀ b out t j i done → length out₀ - done ≡ 0
-      → (◌≡◌ {A = Copied} (record { answer = Count done; at = i; buf = t }) (copied_out (view_of b) (length out₀))) × (out ≡ out_after (view_of b) ar out₀)
+      → (◌≡◌ {A = Outcome (ℕ × ℕ) SendBuf} (record { answer = Ok (done, i); state = t }) (copied_out (view_of b) (length out₀))) × (out ≡ out_after (view_of b) ar out₀)
   ends_full out t j i done m z =
       let l = drop j (view_of b).chunks in
       let x = front (view_of b) + done in
@@ -303,27 +296,35 @@ module _ (ar out₀ : List ℕ) (b : SendBuf) (g : Good b) where
 
 -- ---- the whole emit
 
+-- a number that may be missing, held against one by `==`
+pub fin_at : (o : Option ℕ) (n : ℕ) → option_eq eqb o (Some n) ≡ is_at o n
+fin_at None n = refl
+fin_at (Some m) n = refl
+
 module _ (s : Send) (ar out : List ℕ) where
-  pub emits_bad : other_arena s (length ar) ≡ true → (emitted s (length ar) (length out) ≡ record { answer = NoBytes BadSetup; buf = buf_of s }) × (emitted_out s ar out ≡ out)
+  pub emits_bad : other_arena s (length ar) ≡ true → (emitted s (length ar) (length out) ≡ record { answer = Err BadSetup; state = buf_of s }) × (emitted_out s ar out ≡ out)
   unfolding emitted emitted_out
   emits_bad e = (simp e, simp e)
 
-  module _ (o : Copied) (is : o ≡ copied_out s (length out)) (k : ℕ) (ok : o.answer ≡ Count k) where
-    pub counted : k ≡ emit_count s (length out)
+  module _ (o : Outcome (ℕ × ℕ) SendBuf) (is : o ≡ copied_out s (length out)) (k : ℕ × ℕ) (ok : o.answer ≡ Ok k) where
+    counted : k ≡ (emit_count s (length out), first s + finished (drop (first s) s.chunks) (front s) (length out))
     unfolding copied_out
-    counted = let e : Count k ≡ Count (emit_count s (length out)) = sym ok ∙ ap (λ (x : Copied). x.answer) is in cc
+    counted =
+        let e : Ok k ≡ Ok (emit_count s (length out), first s + finished (drop (first s) s.chunks) (front s) (length out)) = sym ok ∙ ap (λ (x : Outcome (ℕ × ℕ) SendBuf). x.answer) is in
+        cc
 
     -- the bytes copied were to be sent, and end at or below M
-    pub sent_in : GoodSend s → (k ≤ o.buf.buffered_bytes) × (front s + k ≤ M)
+    pub sent_in : GoodSend s → (k.0 ≤ o.state.buffered_bytes) × (front s + k.0 ≤ M)
     unfolding copied_out buf_of
     sent_in g =
         let t = total_sent (first s) s.chunks (front s) (length out) in
         let r = reached s g (length out) in
-        let b : o.buf.buffered_bytes ≡ s.buffered = ap (λ (x : Copied). x.buf.buffered_bytes) is in
-        (omega (arith, counted, g.all_buffered), omega (arith, counted, g.limited, g.limit_in))
+        let n : k.0 ≡ emit_count s (length out) = ap (λ (x : ℕ × ℕ). x.0) counted in
+        let b : o.state.buffered_bytes ≡ s.buffered = ap (λ (x : Outcome (ℕ × ℕ) SendBuf). x.state.buffered_bytes) is in
+        (omega (arith, n, g.all_buffered), omega (arith, n, g.limited, g.limit_in))
 
-    pub emits : other_arena s (length ar) ≡ false → (from : ℕ) (f : Bool) (r : SendBuf) → from ≡ front s → f ≡ is_at s.fin (from + k) → r ≡ sent_to o.buf o.at from k
-        → ◌≡◌ {A = EmitOutcome} (record { answer = Emitted k f; buf = r }) (emitted s (length ar) (length out))
+    pub emits : other_arena s (length ar) ≡ false → (from : ℕ) (f : Bool) (r : SendBuf) → from ≡ front s → f ≡ is_at s.fin (from + k.0) → r ≡ sent_to o.state k.1 from k.0
+        → ◌≡◌ {A = Outcome (ℕ × Bool) SendBuf} (record { answer = Ok (k.0, f); state = r }) (emitted s (length ar) (length out))
     unfolding emitted copied_out sent buf_of
     emits e from f r x p q = rw (q, p, x, counted, is, e)
 
@@ -332,10 +333,8 @@ module _ (s : Send) (ar out : List ℕ) where
     gives e last p = rw (p, e)
 
   -- the loop always counts
-  pub counts_on : (o : Copied) → o ≡ copied_out s (length out) → o.answer ≡ Count (emit_count s (length out))
+  pub never_refused : (o : Outcome (ℕ × ℕ) SendBuf) → o ≡ copied_out s (length out) → (why : Refusal) → o.answer ≡ Err why → ⊥
   unfolding copied_out
-  counts_on o is = ap (λ (x : Copied). x.answer) is
-
-pub not_count : (w : CountAnswer) (k : ℕ) → OneOf (1 ∷ []) (tag_of the_type w) → w ≡ Count k → ⊥
-not_count (Count n) k h e = omega (arith, h)
-not_count (NoCount why) k h e = let z : ◌≡◌ {A = ℕ} 0 1 = cc in omega arith
+  never_refused o is why e =
+      let f : ◌≡◌ {A = Result (ℕ × ℕ) Refusal} (Err why) (Ok (emit_count s (length out), first s + finished (drop (first s) s.chunks) (front s) (length out))) = sym e ∙ ap (λ (x : Outcome (ℕ × ℕ) SendBuf). x.answer) is in
+      cc

@@ -1,5 +1,6 @@
 -- The examples E1, E2, E3 and E5 (RULES 10), and the errors that are easily made, one statement over a table of calls: each call, made after those above
 -- it, is answered as the table says, and leaves what it says. By computing what the contracts promise. Assumes nothing.
+use Rattle.std.specs.Prelude.{Option, Some, None}
 use mathlib.Core.Path.{◌≡◌, refl}
 use mathlib.Core.Bool.{Bool, true, false}
 use mathlib.Core.List.{List, [], ◌∷◌, ◌++◌}
@@ -7,8 +8,6 @@ use Prim.Native.Nat.{ℕ}
 use lib.ListN.{length, replicate}
 use Rattle.refusal.specs.Rules.{Told, success, refusal, told, told_count, told_emit}
 use Rattle.refusal.specs.declared.Refusal.TheVariants.{FinalSize}
-use Rattle.refusal.specs.declared.OptionU64.{OptionU64}
-use Rattle.refusal.specs.declared.OptionU64.TheVariants.{None, Some}
 use Rattle.arena.specs.Rules.{kept, held}
 use Rattle.range_buf.specs.declared.RangeBuf.{RangeBuf}
 use Rattle.send_buf.specs.declared.SendBuf.{SendBuf}
@@ -25,10 +24,10 @@ pub data Call : Type 0 where
 -- ---- one call on the buffer b with the arena ar; the output of an emit is all zeros before it
 
 abbrev buffer : SendBuf → List ℕ → Call → SendBuf
-buffer b ar (write input fin) = (written (view_of b) (length ar) (length input) fin).buf
-buffer b ar (emit n) = (emitted (view_of b) (length ar) n).buf
-buffer b ar (ack a n) = (acks (view_of b) a n).buf
-buffer b ar (retransmit a n) = (retransmits (view_of b) a n).buf
+buffer b ar (write input fin) = (written (view_of b) (length ar) (length input) fin).state
+buffer b ar (emit n) = (emitted (view_of b) (length ar) n).state
+buffer b ar (ack a n) = (acks (view_of b) a n).state
+buffer b ar (retransmit a n) = (retransmits (view_of b) a n).state
 
 abbrev arena : SendBuf → List ℕ → Call → List ℕ
 arena b ar (write input fin) = written_arena (view_of b) ar input fin
@@ -57,10 +56,10 @@ pub record Line : Type 0 where
   chunks : List RangeBuf
   to_send : ℕ
   next : ℕ  -- the front offset: where the next emit begins
-  final : OptionU64
+  final : Option ℕ
   complete : Bool
 
-abbrev line : Call → Told → List ℕ → List RangeBuf → ℕ → ℕ → OptionU64 → Bool → Line
+abbrev line : Call → Told → List ℕ → List RangeBuf → ℕ → ℕ → Option ℕ → Bool → Line
 line call answer out chunks to_send next final complete =
     record { call = call; answer = answer; out = out; chunks = chunks; to_send = to_send; next = next; final = final; complete = complete }
 
@@ -147,7 +146,7 @@ table =
 -- an example, run from a new buffer, goes as its lines say
 abbrev pub Holds : List Example → Type 0
 Holds [] = Unit {0}
-Holds (x ∷ xs) = (run (created x.limit 20).buf (replicate 20 0) (calls x.lines) ≡ x.lines) × Holds xs
+Holds (x ∷ xs) = (run (created x.limit 20).state (replicate 20 0) (calls x.lines) ≡ x.lines) × Holds xs
 
 pub examples : Holds table
 unfolding kept held buf_of created write_judged wrote written written_arena sent emitted emitted_out ack_judged acked_more acks loss_judged lost retransmits

@@ -1,5 +1,6 @@
 -- What follows of a good buffer's numbers, what a refused call leaves alone, and which places of arena and output a call writes.
 -- Assumes nothing.
+use Rattle.std.specs.Prelude.{Result, Ok, Err, ⊤}
 use mathlib.Core.Path.{◌≡◌, refl, sym, ap, ◌∙◌}
 use mathlib.Core.Logic.{◌⊎◌}
 use mathlib.Core.Bool.{Bool, true, false, cond}
@@ -12,11 +13,6 @@ use lib.Seq.{take_at, drop_at}
 use borrow.Author.Tests.{ltb-false, lt-leb, le-ltb, lt-ltb}
 use Rattle.refusal.specs.Rules.{M, with_count, after, known}
 use Rattle.refusal.specs.declared.Refusal.{Refusal}
-use Rattle.refusal.specs.declared.Answer.{Answer}
-use Rattle.refusal.specs.declared.Answer.TheVariants.{Done, Refused}
-use Rattle.refusal.specs.declared.CountAnswer.TheVariants.{Refused as NoCount}
-use Rattle.refusal.specs.declared.EmitAnswer.TheVariants.{Refused as NoBytes}
-use Rattle.refusal.specs.declared.SizesAnswer.TheVariants.{Refused as NoSizes}
 use Rattle.refusal.proofs.Answers.{after_elim}
 use Rattle.arena.specs.Rules.{held}
 use Rattle.arena.proofs.Places.{right_arena}
@@ -28,9 +24,6 @@ use Rattle.ranges.specs.Rules.{member_of, placed}
 use Rattle.ranges.proofs.Members.{placed_new, placed_old, placed_only}
 use Rattle.tables.proofs.Tables.{by_test, cond_elim}
 use Rattle.send_buf.specs.declared.SendBuf.{SendBuf}
-use Rattle.send_buf.specs.declared.Outcome.{Outcome}
-use Rattle.send_buf.specs.declared.EmitOutcome.{EmitOutcome}
-use Rattle.send_buf.specs.declared.SizesOutcome.{SizesOutcome}
 use Rattle.send_buf.specs.State.{Send, view_of, buf_of, base, GoodSend, Good}
 use Rattle.send_buf.specs.Rules.{other_arena, ack_off, accepted, write_judged, written, written_arena, front, first, emit_count, sent, emitted, emitted_out, ack_judged, acked_more, acks, drop_bytes, dropped, ack_drops, moved_back, back, settled, loss_judged, lost, lost_bytes, retransmits, cut_off, unsent, stops, shuts, raised}
 use Rattle.send_buf.proofs.Chunks.{front_in, copied_in, copied_le, total_sent, total_behind}
@@ -38,6 +31,7 @@ use Rattle.send_buf.proofs.Position.{copied_some, front_below}
 use Rattle.send_buf.proofs.Acked.{upto_weak, ack_upto, placed_all}
 use Rattle.send_buf.proofs.Judged.{writes}
 use Rattle.tables.proofs.Tests.{decided}
+use Rattle.refusal.specs.declared.Outcome.{Outcome}
 
 module _ (s : Send) (g : GoodSend s) where
   -- contiguous ack never passes what was emitted, nor the end offset
@@ -109,13 +103,13 @@ module _ (s : Send) (a n v : ℕ) where
 
 -- ---- nothing changes on a refusal
 
-counted : {A : Type 0} (said : Answer) (n : ℕ) (why : Refusal) (x y : A) → with_count said n ≡ NoCount why → after said x y ≡ y
-counted Done n why x y e = let z : ◌≡◌ {A = ℕ} 0 1 = cc in absurd (omega arith)
-counted (Refused w) n why x y e = refl
+counted : {A : Type 0} (said : Result ⊤ Refusal) (n : ℕ) (why : Refusal) (x y : A) → with_count said n ≡ Err why → after said x y ≡ y
+counted (Ok done) n why x y e = let z : ◌≡◌ {A = ℕ} 0 1 = cc in absurd (omega arith)
+counted (Err w) n why x y e = refl
 
-plain : {A : Type 0} (said : Answer) (why : Refusal) (x y : A) → said ≡ Refused why → after said x y ≡ y
-plain Done why x y e = let z : ◌≡◌ {A = ℕ} 0 1 = cc in absurd (omega arith)
-plain (Refused w) why x y e = refl
+plain : {A : Type 0} (said : Result ⊤ Refusal) (why : Refusal) (x y : A) → said ≡ Err why → after said x y ≡ y
+plain (Ok done) why x y e = let z : ◌≡◌ {A = ℕ} 0 1 = cc in absurd (omega arith)
+plain (Err w) why x y e = refl
 
 -- the first of two results, where the second does not answer so
 first_of : {A B : Type 0} (f : A → B) (t : Bool) (x y : A) (v : B) → (f y ≡ v → ⊥) → f (cond t x y) ≡ v → t ≡ true
@@ -124,16 +118,16 @@ first_of f false x y v n e = absurd (n e)
 
 -- each call, refused: the buffer is b, and arena and output are as they were
 pub record Keeps (b : SendBuf) : Type 0 where
-  pub write : (ar input : List ℕ) (fin : Bool) (why : Refusal) → (written (view_of b) (length ar) (length input) fin).answer ≡ NoCount why
-      → ((written (view_of b) (length ar) (length input) fin).buf ≡ b) × (written_arena (view_of b) ar input fin ≡ ar)
-  pub emit : (ar out : List ℕ) (why : Refusal) → (emitted (view_of b) (length ar) (length out)).answer ≡ NoBytes why
-      → ((emitted (view_of b) (length ar) (length out)).buf ≡ b) × (emitted_out (view_of b) ar out ≡ out)
-  pub ack : (a n : ℕ) (why : Refusal) → (acks (view_of b) a n).answer ≡ Refused why → (acks (view_of b) a n).buf ≡ b
-  pub ack_and_drop_lem : (a n : ℕ) (why : Refusal) → (ack_drops (view_of b) a n).answer ≡ NoCount why → (ack_drops (view_of b) a n).buf ≡ b
-  pub retransmit : (a n : ℕ) (why : Refusal) → (retransmits (view_of b) a n).answer ≡ NoCount why → (retransmits (view_of b) a n).buf ≡ b
-  pub stop : (code : ℕ) (why : Refusal) → (stops (view_of b) code).answer ≡ NoSizes why → (stops (view_of b) code).buf ≡ b
-  pub shutdown : (why : Refusal) → (shuts (view_of b)).answer ≡ NoSizes why → (shuts (view_of b)).buf ≡ b
-  pub update_max_data_lem : (limit : ℕ) (why : Refusal) → (raised (view_of b) limit).answer ≡ Refused why → (raised (view_of b) limit).buf ≡ b
+  pub write : (ar input : List ℕ) (fin : Bool) (why : Refusal) → (written (view_of b) (length ar) (length input) fin).answer ≡ Err why
+      → ((written (view_of b) (length ar) (length input) fin).state ≡ b) × (written_arena (view_of b) ar input fin ≡ ar)
+  pub emit : (ar out : List ℕ) (why : Refusal) → (emitted (view_of b) (length ar) (length out)).answer ≡ Err why
+      → ((emitted (view_of b) (length ar) (length out)).state ≡ b) × (emitted_out (view_of b) ar out ≡ out)
+  pub ack : (a n : ℕ) (why : Refusal) → (acks (view_of b) a n).answer ≡ Err why → (acks (view_of b) a n).state ≡ b
+  pub ack_and_drop_lem : (a n : ℕ) (why : Refusal) → (ack_drops (view_of b) a n).answer ≡ Err why → (ack_drops (view_of b) a n).state ≡ b
+  pub retransmit : (a n : ℕ) (why : Refusal) → (retransmits (view_of b) a n).answer ≡ Err why → (retransmits (view_of b) a n).state ≡ b
+  pub stop : (code : ℕ) (why : Refusal) → (stops (view_of b) code).answer ≡ Err why → (stops (view_of b) code).state ≡ b
+  pub shutdown : (why : Refusal) → (shuts (view_of b)).answer ≡ Err why → (shuts (view_of b)).state ≡ b
+  pub update_max_data_lem : (limit : ℕ) (why : Refusal) → (raised (view_of b) limit).answer ≡ Err why → (raised (view_of b) limit).state ≡ b
 
 pub refusal_keeps : (b : SendBuf) → Good b → Keeps b
 unfolding written written_arena emitted emitted_out acks ack_drops retransmits stops shuts raised
@@ -143,19 +137,19 @@ refusal_keeps b g = record {
     counted (write_judged (view_of b) (length ar) (length input) fin) _ why _ ar e,
   );
   emit = λ ar out why e.
-      let h = first_of (λ (o : EmitOutcome). o.answer) (other_arena (view_of b) (length ar)) _ _ (NoBytes why) (λ q. let z : ◌≡◌ {A = ℕ} 0 1 = cc in omega arith) e in
+      let h = first_of (λ (o : Outcome (ℕ × Bool) SendBuf). o.answer) (other_arena (view_of b) (length ar)) _ _ (Err why) (λ q. let z : ◌≡◌ {A = ℕ} 0 1 = cc in omega arith) e in
       (simp h (sym g.whole), simp h);
   ack = λ a n why e. ap buf_of (plain (ack_judged (view_of b) a n) why _ (view_of b) e) ∙ sym g.whole;
   ack_and_drop_lem = λ a n why e. ap buf_of (counted (ack_judged (view_of b) a n) _ why _ (view_of b) e) ∙ sym g.whole;
   retransmit = λ a n why e. ap buf_of (counted (loss_judged (view_of b) a n) _ why _ (view_of b) e) ∙ sym g.whole;
   stop = λ code why e.
-      let h = first_of (λ (o : SizesOutcome). o.answer) (known b.error) _ _ (NoSizes why) (λ q. let z : ◌≡◌ {A = ℕ} 0 1 = cc in omega arith) e in
+      let h = first_of (λ (o : Outcome (ℕ × ℕ) SendBuf). o.answer) (known b.error) _ _ (Err why) (λ q. let z : ◌≡◌ {A = ℕ} 0 1 = cc in omega arith) e in
       simp h (sym g.whole);
   shutdown = λ why e.
-      let h = first_of (λ (o : SizesOutcome). o.answer) b.shutdown _ _ (NoSizes why) (λ q. let z : ◌≡◌ {A = ℕ} 0 1 = cc in omega arith) e in
-      ap (λ (o : SizesOutcome). o.buf) (decided h _ _) ∙ sym g.whole;
+      let h = first_of (λ (o : Outcome (ℕ × ℕ) SendBuf). o.answer) b.shutdown _ _ (Err why) (λ q. let z : ◌≡◌ {A = ℕ} 0 1 = cc in omega arith) e in
+      ap (λ (o : Outcome (ℕ × ℕ) SendBuf). o.state) (decided h _ _) ∙ sym g.whole;
   update_max_data_lem = λ limit why e.
-      let h = first_of (λ (o : Outcome). o.answer) (ltb M limit) _ _ (Refused why) (λ q. let z : ◌≡◌ {A = ℕ} 0 1 = cc in omega arith) e in
+      let h = first_of (λ (o : Outcome ⊤ SendBuf). o.answer) (ltb M limit) _ _ (Err why) (λ q. let z : ◌≡◌ {A = ℕ} 0 1 = cc in omega arith) e in
       simp h (sym g.whole);
 }
 
@@ -190,7 +184,7 @@ module _ (s : Send) (ar input : List ℕ) (fin : Bool) where
       (omega (arith, length-take k input, ltb-false s.room (k + (s.off - base s.chunks s.off)) w.room)))
       refl
 
-  pub write_kept : write_judged s (length ar) (length input) fin ≡ Done
+  pub write_kept : write_judged s (length ar) (length input) fin ≡ Ok tt
       → held (written_arena s ar input fin) s.off (accepted s (length input)) ≡ take (accepted s (length input)) input
   unfolding written_arena
   write_kept e =

@@ -3,6 +3,7 @@ use mathlib.Core.Path.{◌≡◌, sym, ap}
 use mathlib.Core.List.{List, [], ◌∷◌}
 use Prim.Native.Nat.{ℕ, zero, suc, ◌+◌, ◌≤◌, ◌<◌}
 use native.Mathlib.Omega.{arith}
+use Rattle.std.specs.List.{All}
 use lib.ListN.{length, take, drop, get_or}
 use Rattle.tables.specs.Lists.{Table, table_of}
 use Rattle.tables.proofs.Tables as tables
@@ -15,6 +16,10 @@ use Rattle.ranges.proofs.Good.{good_of}
 use Rattle.send_buf.specs.declared.SendBuf.{SendBuf}
 use Rattle.send_buf.proofs.Chunks.{adj_le}
 use Rattle.send_buf.specs.State.{Send, buf_of, Good, Adjoin, base}
+
+-- a buffer with another chunk table
+abbrev pub set_table : SendBuf → List RangeBuf → ℕ → SendBuf
+set_table b xs n = record b { «data» = xs; count = n }
 
 -- a struct whose chunk table and acked set are those of s, with the numbers of s, is the buffer that holds s
 pub made : (s : Send) (d : List RangeBuf) (n : ℕ) (a : RangeSet) → d ≡ table_of zero_buf s.chunks → n ≡ length s.chunks → a ≡ set_of 64 s.acked
@@ -46,12 +51,12 @@ pub record Within (lo hi : ℕ) (c : RangeBuf) : Type 0 where
   pub eats : c.pos ≤ c.len
 
 -- so does each of chunks that adjoin from lo up to hi
-pub each_chunk : (l : List RangeBuf) (lo hi i : ℕ) → Adjoin lo l hi → i < length l → Within lo hi (get_or l i zero_buf)
-each_chunk [] lo hi i a h = absurd (omega arith)
-each_chunk (c ∷ l) lo hi zero a h =
+pub each_chunk : (l : List RangeBuf) (lo hi i : ℕ) (d : RangeBuf) → Adjoin lo l hi → i < length l → Within lo hi (get_or l i d)
+each_chunk [] lo hi i d a h = absurd (omega arith)
+each_chunk (c ∷ l) lo hi zero d a h =
     record { low = omega (arith, a.0); high = adj_le (end c) l hi a.3; some = a.1; eats = a.2 }
-each_chunk (c ∷ l) lo hi (suc i) a h =
-    let r = each_chunk l (end c) hi i a.3 (omega arith) in
+each_chunk (c ∷ l) lo hi (suc i) d a h =
+    let r = each_chunk l (end c) hi i d a.3 (omega arith) in
     record { low = omega (arith, a.0, r.low); high = r.high; some = r.some; eats = r.eats }
 
 module _ (b : SendBuf) (g : Good b) where
@@ -89,11 +94,16 @@ module _ (b : SendBuf) (g : Good b) where
   pub chunk_in : (i : ℕ) → i < b.count → Within (base (take b.count b.«data») b.off) b.off (get_or b.«data» i zero_buf)
   chunk_in i h =
       rw (sym (entry i))
-      (each_chunk (take b.count b.«data») (base (take b.count b.«data») b.off) b.off i g.facts.adjoin (omega (arith, chunks_length)))
+      (each_chunk (take b.count b.«data») (base (take b.count b.«data») b.off) b.off i zero_buf g.facts.adjoin (omega (arith, chunks_length)))
 
   pub chunk_good : (i : ℕ) → i < b.count → GoodChunk (get_or b.«data» i zero_buf)
   chunk_good i h =
       let w = chunk_in i h in
+      record { used_in = w.eats; end_in = omega (arith, w.high, g.facts.limited, g.facts.limit_in) }
+
+  pub all_good : All GoodChunk (take b.count b.«data»)
+  all_good i d h =
+      let w = each_chunk (take b.count b.«data») (base (take b.count b.«data») b.off) b.off i d g.facts.adjoin h in
       record { used_in = w.eats; end_in = omega (arith, w.high, g.facts.limited, g.facts.limit_in) }
 
   -- the acked set

@@ -2,16 +2,14 @@
 -- stops and shutdowns among them, contiguous ack does not pass the largest emitted offset, nor does that pass the end of what was written. So a
 -- write of a byte or more would never meet the test, one of none would have nothing to skip, and the number accepted is the same with the test
 -- as without it. Assumes nothing.
+use Rattle.std.specs.Prelude.{Ok, Err, Some}
 use mathlib.Core.Path.{◌≡◌, refl}
 use mathlib.Core.Bool.{Bool, true, false, cond}
 use Prim.Native.Nat.{ℕ, zero, suc, ◌+◌, ◌≤◌, ◌<◌}
 use native.Mathlib.Omega.{arith}
 use lib.Dec.{leb}
 use borrow.Author.Tests.{lt-leb}
-use Rattle.refusal.specs.declared.Answer.TheVariants.{Refused}
-use Rattle.refusal.specs.declared.CountAnswer.TheVariants.{Count}
 use Rattle.refusal.specs.declared.Refusal.TheVariants.{NeverSent}
-use Rattle.refusal.specs.declared.OptionU64.TheVariants.{Some}
 use Rattle.tables.proofs.Tables.{cond_elim}
 use Rattle.send_buf.specs.declared.SendBuf.{SendBuf}
 use Rattle.send_buf.specs.State.{Send, view_of, buf_of, GoodSend}
@@ -53,14 +51,14 @@ module _ (b : SendBuf) (r : Reached b) where
 
 -- three bytes, written, sent and acked
 abbrev three : SendBuf
-three = (acks (view_of (emitted (view_of (written (view_of (created 10 16).buf) 16 3 false).buf) 16 3).buf) 0 3).buf
+three = (acks (view_of (emitted (view_of (written (view_of (created 10 16).state) 16 3 false).state) 16 3).state) 0 3).state
 
 -- the write of no bytes that then closes the stream would meet the test: it answers 0, and sets F, as it must
-pub closing_meets : Reached three × (acked_already (view_of three) 0 ≡ true) × ((written (view_of three) 16 0 true).answer ≡ Count 0) × ((view_of (written (view_of three) 16 0 true).buf).fin ≡ Some 3)
+pub closing_meets : Reached three × (acked_already (view_of three) 0 ≡ true) × ((written (view_of three) 16 0 true).answer ≡ Ok 0) × ((view_of (written (view_of three) 16 0 true).state).fin ≡ Some 3)
 unfolding buf_of created write_judged wrote written sent emitted ack_judged acked_more acks
 closing_meets = (ack _ 0 3 (emit _ 16 3 (write _ 16 3 false (new 10 16))), refl, refl, refl)
 
 -- an ack of three bytes never sent is refused. Were it taken, the test would pass over the next three, which no one has
-pub rests_on_refusal : ((acks (new_send 16 10) 0 3).answer ≡ Refused NeverSent) × (skipping (acked_more (new_send 16 10) 0 3) 3 ≡ 0) × (accepted (acked_more (new_send 16 10) 0 3) 3 ≡ 3)
+pub rests_on_refusal : ((acks (new_send 16 10) 0 3).answer ≡ Err NeverSent) × (skipping (acked_more (new_send 16 10) 0 3) 3 ≡ 0) × (accepted (acked_more (new_send 16 10) 0 3) 3 ≡ 3)
 unfolding ack_judged acked_more acks
 rests_on_refusal = (refl, refl, refl)

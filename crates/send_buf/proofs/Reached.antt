@@ -1,9 +1,9 @@
 -- The buffers that came from creation or a call, refused or not: each is good, so what is proved of good buffers holds after any sequence of
 -- calls. Assumes nothing.
+use Rattle.std.specs.Prelude.{Option}
 use mathlib.Core.Path.{◌≡◌}
 use mathlib.Core.Bool.{Bool}
 use Prim.Native.Nat.{ℕ, ◌+◌, ◌/◌, ◌≤◌, ◌<◌}
-use Rattle.refusal.specs.declared.OptionU64.{OptionU64}
 use Rattle.send_buf.specs.declared.SendBuf.{SendBuf}
 use Rattle.send_buf.specs.State.{view_of, Good}
 use Rattle.send_buf.specs.Rules.{created, written, emitted, acks, ack_drops, retransmits, resets, stops, shuts, raised, blocked_with}
@@ -11,17 +11,17 @@ use Rattle.send_buf.proofs.Kept.{created_good, written_good, emitted_good, acks_
 use Rattle.send_buf.proofs.Emits.{groups, emits, all_out}
 
 pub data Reached : SendBuf → Type 0 where
-  new : (limit A : ℕ) → Reached (created limit A).buf
-  write : (b : SendBuf) (a n : ℕ) (fin : Bool) → Reached b → Reached (written (view_of b) a n fin).buf
-  emit : (b : SendBuf) (a n : ℕ) → Reached b → Reached (emitted (view_of b) a n).buf
-  ack : (b : SendBuf) (a n : ℕ) → Reached b → Reached (acks (view_of b) a n).buf
-  ack_and_drop_lem : (b : SendBuf) (a n : ℕ) → Reached b → Reached (ack_drops (view_of b) a n).buf
-  retransmit : (b : SendBuf) (a n : ℕ) → Reached b → Reached (retransmits (view_of b) a n).buf
-  reset : (b : SendBuf) → Reached b → Reached (resets (view_of b)).buf
-  stop : (b : SendBuf) (code : ℕ) → Reached b → Reached (stops (view_of b) code).buf
-  shutdown : (b : SendBuf) → Reached b → Reached (shuts (view_of b)).buf
-  update_max_data_lem : (b : SendBuf) (limit : ℕ) → Reached b → Reached (raised (view_of b) limit).buf
-  update_blocked_at_lem : (b : SendBuf) (blocked : OptionU64) → Reached b → Reached (blocked_with (view_of b) blocked)
+  new : (limit A : ℕ) → Reached (created limit A).state
+  write : (b : SendBuf) (a n : ℕ) (fin : Bool) → Reached b → Reached (written (view_of b) a n fin).state
+  emit : (b : SendBuf) (a n : ℕ) → Reached b → Reached (emitted (view_of b) a n).state
+  ack : (b : SendBuf) (a n : ℕ) → Reached b → Reached (acks (view_of b) a n).state
+  ack_and_drop_lem : (b : SendBuf) (a n : ℕ) → Reached b → Reached (ack_drops (view_of b) a n).state
+  retransmit : (b : SendBuf) (a n : ℕ) → Reached b → Reached (retransmits (view_of b) a n).state
+  reset : (b : SendBuf) → Reached b → Reached (resets (view_of b)).state
+  stop : (b : SendBuf) (code : ℕ) → Reached b → Reached (stops (view_of b) code).state
+  shutdown : (b : SendBuf) → Reached b → Reached (shuts (view_of b)).state
+  update_max_data_lem : (b : SendBuf) (limit : ℕ) → Reached b → Reached (raised (view_of b) limit).state
+  update_blocked_at_lem : (b : SendBuf) (blocked : Option ℕ) → Reached b → Reached (blocked_with (view_of b) blocked)
 
 pub reached_good : (b : SendBuf) → Reached b → Good b
 reached_good _ (new limit A) = created_good limit A

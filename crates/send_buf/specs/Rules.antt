@@ -9,16 +9,9 @@
 --
 -- Each call has its refusals, one named test to a line in the order of RULES 2.2, and apart from them its effect. Sums are whole numbers.
 -- `cond t x y` is x if the test t holds, else y.
-use Rattle.std.specs.Prelude.{Bool, true, false, cond, not, ◌&&◌, ◌||◌, List, [], ◌∷◌, ◌++◌, ℕ, zero, suc, ◌+◌, ◌-◌, ◌/◌, min, max, ltb, leb, eqb, length, take, drop}
+use Rattle.std.specs.Prelude.{Bool, true, false, cond, not, ◌&&◌, ◌||◌, List, [], ◌∷◌, ◌++◌, ℕ, zero, suc, ◌+◌, ◌-◌, ◌/◌, min, max, ltb, leb, eqb, length, take, drop, Result, Ok, Err, Option, Some, None, ⊤}
 use Rattle.refusal.specs.Rules.{M, with_count, after, known, is_at, fin_with}
-use Rattle.refusal.specs.declared.Answer.{Answer}
-use Rattle.refusal.specs.declared.Answer.TheVariants.{Done, Refused}
-use Rattle.refusal.specs.declared.EmitAnswer.TheVariants.{Emitted, Refused as NoBytes}
-use Rattle.refusal.specs.declared.SizesAnswer.TheVariants.{Sizes, Refused as NoSizes}
-use Rattle.refusal.specs.declared.CountAnswer.{CountAnswer}
 use Rattle.refusal.specs.declared.Refusal.TheVariants.{Offset, Stopped, FinalSize, NoRoom, TableFull, NeverSent, Done as NothingMore, BadSetup}
-use Rattle.refusal.specs.declared.OptionU64.{OptionU64}
-use Rattle.refusal.specs.declared.OptionU64.TheVariants.{None, Some}
 use Rattle.arena.specs.Rules.{kept, held}
 use Rattle.range_buf.specs.declared.RangeBuf.{RangeBuf}
 use Rattle.range_buf.specs.Rules.{start, end, avail, fresh, used, left_part, right_part}
@@ -26,11 +19,9 @@ use Rattle.ranges.specs.declared.Range.{Range}
 use Rattle.ranges.specs.State.{upto}
 use Rattle.ranges.specs.Rules.{placed, needs_room, is_single}
 use Rattle.send_buf.specs.declared.SendBuf.{SendBuf}
-use Rattle.send_buf.specs.declared.Outcome.{Outcome}
-use Rattle.send_buf.specs.declared.CountOutcome.{CountOutcome}
-use Rattle.send_buf.specs.declared.EmitOutcome.{EmitOutcome}
-use Rattle.send_buf.specs.declared.SizesOutcome.{SizesOutcome}
 use Rattle.send_buf.specs.State.{Send, buf_of, base}
+use Rattle.refusal.specs.declared.Outcome.{Outcome}
+use Rattle.refusal.specs.declared.Refusal.{Refusal}
 
 -- ---- what several calls share
 
@@ -61,7 +52,7 @@ with_queue s chunks pos buffered = record {
 }
 
 -- another end and final size
-abbrev pub with_end : Send → ℕ → OptionU64 → Send
+abbrev pub with_end : Send → ℕ → Option ℕ → Send
 with_end s off fin = record {
   room = s.room;
   chunks = s.chunks;
@@ -112,7 +103,7 @@ with_acked s acked = record {
 }
 
 -- another limit and blocked offset
-abbrev pub with_limit : Send → ℕ → OptionU64 → Send
+abbrev pub with_limit : Send → ℕ → Option ℕ → Send
 with_limit s limit blocked = record {
   room = s.room;
   chunks = s.chunks;
@@ -129,7 +120,7 @@ with_limit s limit blocked = record {
 }
 
 -- shut down or not, and the code of a stop
-abbrev pub with_closed : Send → Bool → OptionU64 → Send
+abbrev pub with_closed : Send → Bool → Option ℕ → Send
 with_closed s shut error = record {
   room = s.room;
   chunks = s.chunks;
@@ -196,10 +187,10 @@ abbrev pub bad_numbers : ℕ → ℕ → Bool
 bad_numbers limit A = eqb A 0 || ltb 65536 A || ltb M limit
 
 -- `new`. With a refusal comes a dead buffer: it is for an arena of no bytes, so every call that takes an arena answers BadSetup
-unfoldable pub created : ℕ → ℕ → Outcome
+unfoldable pub created : ℕ → ℕ → Outcome ⊤ SendBuf
 created limit A =
-    cond (bad_numbers limit A) (record { answer = Refused BadSetup; buf = buf_of (new_send 0 0) })
-    (record { answer = Done; buf = buf_of (new_send A limit) })
+    cond (bad_numbers limit A) (record { answer = Err BadSetup; state = buf_of (new_send 0 0) })
+    (record { answer = Ok tt; state = buf_of (new_send A limit) })
 
 -- ---- write: n bytes, marked as the end or not
 
@@ -216,12 +207,12 @@ abbrev pub accepted : Send → ℕ → ℕ
 accepted s n = min n (s.limit - s.off)
 
 -- after a stop, its code
-abbrev pub unless_stopped : OptionU64 → Answer → Answer
+abbrev pub unless_stopped : Option ℕ → Result ⊤ Refusal → Result ⊤ Refusal
 unless_stopped None x = x
-unless_stopped (Some code) x = Refused (Stopped code)
+unless_stopped (Some code) x = Err (Stopped code)
 
 -- with known final size F: m > F, or m = F without end mark
-abbrev pub passes_final : OptionU64 → ℕ → Bool → Bool
+abbrev pub passes_final : Option ℕ → ℕ → Bool → Bool
 passes_final None m fin = false
 passes_final (Some f) m fin = ltb f m || eqb m f && not fin
 
@@ -247,14 +238,14 @@ abbrev pub no_entry : Send → ℕ → Bool
 no_entry s n = ltb 64 (length (tabled (longer s (accepted s n))))
 
 -- the refusals, for an arena of a bytes
-unfoldable pub write_judged : Send → ℕ → ℕ → Bool → Answer
+unfoldable pub write_judged : Send → ℕ → ℕ → Bool → Result ⊤ Refusal
 write_judged s a n fin =
-    cond (other_arena s a) (Refused BadSetup) (
+    cond (other_arena s a) (Err BadSetup) (
     unless_stopped s.error (
-    cond (passes_final s.fin (s.off + n) (marked s n fin)) (Refused FinalSize) (
-    cond (no_room s n) (Refused NoRoom) (
-    cond (no_entry s n) (Refused TableFull) (
-    Done)))))
+    cond (passes_final s.fin (s.off + n) (marked s n fin)) (Err FinalSize) (
+    cond (no_room s n) (Err NoRoom) (
+    cond (no_entry s n) (Err TableFull) (
+    Ok tt)))))
 
 -- the effect
 unfoldable pub wrote : Send → ℕ → Bool → Send
@@ -265,10 +256,10 @@ wrote s n fin =
     (fin_with s.fin (s.off + n) (marked s n fin))
 
 -- `write`, with the arena ar: its answer and state; and the arena after it, in which the accepted bytes are kept from `off` on
-unfoldable pub written : Send → ℕ → ℕ → Bool → CountOutcome
+unfoldable pub written : Send → ℕ → ℕ → Bool → Outcome ℕ SendBuf
 written s a n fin =
     let said = write_judged s a n fin in
-    record { answer = with_count said (accepted s n); buf = buf_of (after said (wrote s n fin) s) }
+    record { answer = with_count said (accepted s n); state = buf_of (after said (wrote s n fin) s) }
 
 unfoldable pub written_arena : Send → List ℕ → List ℕ → Bool → List ℕ
 written_arena s ar input fin =
@@ -322,10 +313,10 @@ sent s n =
     (max s.emitted (front s + emit_count s n))
 
 -- `emit`: its answer has the count, and the end mark exactly if the offset reached is F
-unfoldable pub emitted : Send → ℕ → ℕ → EmitOutcome
+unfoldable pub emitted : Send → ℕ → ℕ → Outcome (ℕ × Bool) SendBuf
 emitted s a n =
-    cond (other_arena s a) (record { answer = NoBytes BadSetup; buf = buf_of s })
-    (record { answer = Emitted (emit_count s n) (is_at s.fin (front s + emit_count s n)); buf = buf_of (sent s n) })
+    cond (other_arena s a) (record { answer = Err BadSetup; state = buf_of s })
+    (record { answer = Ok (emit_count s n, is_at s.fin (front s + emit_count s n)); state = buf_of (sent s n) })
 
 -- the output after it: the bytes from the front offset on, straight behind one another, and the rest as it was
 unfoldable pub emitted_out : Send → List ℕ → List ℕ → List ℕ
@@ -339,21 +330,21 @@ abbrev pub never_sent : Send → ℕ → ℕ → Bool
 never_sent s a n = ltb s.emitted (a + n)
 
 -- the refusals; a send buffer refuses TableFull in place of losing an acked range
-unfoldable pub ack_judged : Send → ℕ → ℕ → Answer
+unfoldable pub ack_judged : Send → ℕ → ℕ → Result ⊤ Refusal
 ack_judged s a n =
-    cond (never_sent s a n) (Refused NeverSent) (
-    cond (needs_room 64 (upto a (a + n)) s.acked) (Refused TableFull) (
-    Done))
+    cond (never_sent s a n) (Err NeverSent) (
+    cond (needs_room 64 (upto a (a + n)) s.acked) (Err TableFull) (
+    Ok tt))
 
 -- the range joins the acked set
 unfoldable pub acked_more : Send → ℕ → ℕ → Send
 acked_more s a n = with_acked s (placed (upto a (a + n)) s.acked)
 
 -- `ack`
-unfoldable pub acks : Send → ℕ → ℕ → Outcome
+unfoldable pub acks : Send → ℕ → ℕ → Outcome ⊤ SendBuf
 acks s a n =
     let said = ack_judged s a n in
-    record { answer = said; buf = buf_of (after said (acked_more s a n) s) }
+    record { answer = said; state = buf_of (after said (acked_more s a n) s) }
 
 -- leading chunks that end at or below k: the chunks behind them, how many they are, and their bytes still to be sent
 abbrev pub behind : List RangeBuf → ℕ → List RangeBuf
@@ -376,11 +367,11 @@ abbrev pub dropped : Send → ℕ → Send
 dropped s k = with_queue s (behind s.chunks k) (s.pos - drop_count s.chunks k) (s.buffered - drop_bytes s.chunks k)
 
 -- `ack_and_drop`: the answer is how many of the dropped bytes were still to be sent
-unfoldable pub ack_drops : Send → ℕ → ℕ → CountOutcome
+unfoldable pub ack_drops : Send → ℕ → ℕ → Outcome ℕ SendBuf
 ack_drops s a n =
     let said = ack_judged s a n in
     let t = acked_more s a n in
-    record { answer = with_count said (drop_bytes s.chunks (drop_to t a)); buf = buf_of (after said (dropped t (drop_to t a)) s) }
+    record { answer = with_count said (drop_bytes s.chunks (drop_to t a)); state = buf_of (after said (dropped t (drop_to t a)) s) }
 
 -- ---- retransmit: the n bytes at a are lost
 
@@ -416,11 +407,11 @@ abbrev pub settled : Send → ℕ → ℕ → Bool
 settled s a n = eqb (length s.chunks) 0 || leb (a + n) (ack_off s.acked)
 
 -- the refusals
-unfoldable pub loss_judged : Send → ℕ → ℕ → Answer
+unfoldable pub loss_judged : Send → ℕ → ℕ → Result ⊤ Refusal
 loss_judged s a n =
-    cond (never_sent s a n) (Refused NeverSent) (
-    cond (not (settled s a n) && ltb 64 (length (tabled (back s.chunks a (a + n))))) (Refused TableFull) (
-    Done))
+    cond (never_sent s a n) (Err NeverSent) (
+    cond (not (settled s a n) && ltb 64 (length (tabled (back s.chunks a (a + n))))) (Err TableFull) (
+    Ok tt))
 
 -- the effect, and the answer
 unfoldable pub lost : Send → ℕ → ℕ → Send
@@ -433,10 +424,10 @@ abbrev pub lost_bytes : Send → ℕ → ℕ → ℕ
 lost_bytes s a n = cond (settled s a n) 0 (back_bytes s.chunks a (a + n))
 
 -- `retransmit`
-unfoldable pub retransmits : Send → ℕ → ℕ → CountOutcome
+unfoldable pub retransmits : Send → ℕ → ℕ → Outcome ℕ SendBuf
 retransmits s a n =
     let said = loss_judged s a n in
-    record { answer = with_count said (lost_bytes s a n); buf = buf_of (after said (lost s a n) s) }
+    record { answer = with_count said (lost_bytes s a n); state = buf_of (after said (lost s a n) s) }
 
 -- ---- reset, stop, shutdown
 
@@ -455,38 +446,38 @@ abbrev pub unsent : Send → ℕ
 unsent s = s.off - cut_off s
 
 -- `reset`
-unfoldable pub resets : Send → SizesOutcome
-resets s = record { answer = Sizes s.emitted (unsent s); buf = buf_of (was_reset s) }
+unfoldable pub resets : Send → Outcome (ℕ × ℕ) SendBuf
+resets s = record { answer = Ok (s.emitted, unsent s); state = buf_of (was_reset s) }
 
 -- `stop` and `shutdown` do this once each
-unfoldable pub stops : Send → ℕ → SizesOutcome
+unfoldable pub stops : Send → ℕ → Outcome (ℕ × ℕ) SendBuf
 stops s code =
-    cond (known s.error) (record { answer = NoSizes NothingMore; buf = buf_of s })
-    (record { answer = Sizes s.emitted (unsent s); buf = buf_of (with_closed (was_reset s) s.shut (Some code)) })
+    cond (known s.error) (record { answer = Err NothingMore; state = buf_of s })
+    (record { answer = Ok (s.emitted, unsent s); state = buf_of (with_closed (was_reset s) s.shut (Some code)) })
 
-unfoldable pub shuts : Send → SizesOutcome
+unfoldable pub shuts : Send → Outcome (ℕ × ℕ) SendBuf
 shuts s =
-    cond s.shut (record { answer = NoSizes NothingMore; buf = buf_of s })
-    (record { answer = Sizes s.emitted (unsent s); buf = buf_of (with_closed (was_reset s) true s.error) })
+    cond s.shut (record { answer = Err NothingMore; state = buf_of s })
+    (record { answer = Ok (s.emitted, unsent s); state = buf_of (with_closed (was_reset s) true s.error) })
 
 -- ---- the limit, and what is asked
 
 -- `update_max_data`: Offset exactly if the limit is above M; a smaller one has no effect
-unfoldable pub raised : Send → ℕ → Outcome
+unfoldable pub raised : Send → ℕ → Outcome ⊤ SendBuf
 raised s limit =
-    cond (ltb M limit) (record { answer = Refused Offset; buf = buf_of s })
-    (record { answer = Done; buf = buf_of (with_limit s (max s.limit limit) s.blocked) })
+    cond (ltb M limit) (record { answer = Err Offset; state = buf_of s })
+    (record { answer = Ok tt; state = buf_of (with_limit s (max s.limit limit) s.blocked) })
 
 -- `update_blocked_at`
-unfoldable pub blocked_with : Send → OptionU64 → SendBuf
+unfoldable pub blocked_with : Send → Option ℕ → SendBuf
 blocked_with s blocked = buf_of (with_limit s s.limit blocked)
 
 -- `cap`: what the limit leaves, or the code of a stop
-abbrev pub cap : Send → CountAnswer
-cap s = with_count (unless_stopped s.error Done) (s.limit - s.off)
+abbrev pub cap : Send → Result ℕ Refusal
+cap s = with_count (unless_stopped s.error (Ok tt)) (s.limit - s.off)
 
 -- `is_complete`: F is known and the acked set is the single range 0..F. An empty set is not 0..0
-abbrev pub complete_at : OptionU64 → List Range → Bool
+abbrev pub complete_at : Option ℕ → List Range → Bool
 complete_at None acked = false
 complete_at (Some f) acked = is_single (upto 0 f) acked
 

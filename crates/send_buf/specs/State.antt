@@ -1,9 +1,7 @@
 -- A send buffer as numbers and lists, the struct that holds them, and what every buffer is that came from creation or a call.
-use Rattle.std.specs.Prelude.{◌≡◌, Bool, List, [], ◌∷◌, ℕ, ◌+◌, ◌-◌, ◌≤◌, ◌<◌, length, take}
+use Rattle.std.specs.Prelude.{◌≡◌, Bool, List, [], ◌∷◌, ℕ, ◌+◌, ◌-◌, ◌≤◌, ◌<◌, length, take, Option, Some}
 use Rattle.tables.specs.Lists.{table_of}
 use Rattle.refusal.specs.Rules.{M}
-use Rattle.refusal.specs.declared.OptionU64.{OptionU64}
-use Rattle.refusal.specs.declared.OptionU64.TheVariants.{Some}
 use Rattle.range_buf.specs.declared.RangeBuf.{RangeBuf}
 use Rattle.range_buf.specs.Rules.{start, end, avail, zero_buf}
 use Rattle.ranges.specs.declared.Range.{Range}
@@ -18,11 +16,11 @@ pub record Send : Type 0 where
   pub emitted : ℕ  -- the largest offset that was sent
   pub buffered : ℕ  -- the bytes still to be sent
   pub limit : ℕ  -- how far the peer lets us send
-  pub blocked : OptionU64  -- the last offset at which the stream was blocked
-  pub fin : OptionU64  -- the final size F, once known
+  pub blocked : (Option ℕ)  -- the last offset at which the stream was blocked
+  pub fin : (Option ℕ)  -- the final size F, once known
   pub shut : Bool
   pub acked : List Range
-  pub error : OptionU64  -- the code of a stop
+  pub error : (Option ℕ)  -- the code of a stop
 
 -- what a buffer holds
 abbrev pub view_of : SendBuf → Send

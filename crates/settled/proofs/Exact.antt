@@ -4,8 +4,9 @@
 --   Line        one line of a chain: a refusal with its test, or the code of a stop or a reset
 --   said        the answer of a chain: the first line that applies
 --   When        when a refusal is given: its line's condition, and of each line before it that it does not apply
---   exactly     the answer is Refused x exactly when `When x` says
+--   exactly     the answer is Err x exactly when `When x` says
 --   only        and x has one of the numbers of the lines
+use Rattle.std.specs.Prelude.{Option, None, Some, Result, Ok, Err, ⊤}
 use mathlib.Core.Path.{◌≡◌, refl, sym, ap, ◌∙◌}
 use mathlib.Core.Logic.Iff
 use mathlib.Core.Logic.{◌↔◌, ◌≢◌, inl, inr}
@@ -21,10 +22,6 @@ use Rattle.tables.proofs.Tests.{either, clash, and_true, or_false}
 use Rattle.refusal.specs.Rules.{number_of, code_of, known}
 use Rattle.refusal.specs.declared.Refusal.{Refusal}
 use Rattle.refusal.specs.declared.Refusal.TheVariants.{Offset, Stopped, FinalSize, FlowControl, NoRoom, TableFull, NeverSent, Done as NothingMore, Reset, BadSetup}
-use Rattle.refusal.specs.declared.Answer.{Answer}
-use Rattle.refusal.specs.declared.Answer.TheVariants.{Done, Refused}
-use Rattle.refusal.specs.declared.OptionU64.{OptionU64}
-use Rattle.refusal.specs.declared.OptionU64.TheVariants.{None, Some}
 use Rattle.settled.specs.Conditions.{◌and◌, OneOf}
 use Rattle.settled.proofs.ExactTests.{Test}
 
@@ -43,7 +40,7 @@ named_by n c =
     cond (eqb n 8) NothingMore (
     cond (eqb n 9) (Reset c) BadSetup))))))))
 
-or_0 : OptionU64 → ℕ
+or_0 : Option ℕ → ℕ
 or_0 None = 0
 or_0 (Some c) = c
 
@@ -61,7 +58,7 @@ names (Reset code) = refl
 names BadSetup = refl
 
 same_refusal : (x y : Refusal) → number_of x ≡ number_of y → code_of x ≡ code_of y → x ≡ y
-same_refusal x y n c = sym (names x) ∙ ap (λ (m : ℕ). named_by m (or_0 (code_of x))) n ∙ ap (λ (d : OptionU64). named_by (number_of y) (or_0 d)) c ∙ names y
+same_refusal x y n c = sym (names x) ∙ ap (λ (m : ℕ). named_by m (or_0 (code_of x))) n ∙ ap (λ (d : Option ℕ). named_by (number_of y) (or_0 d)) c ∙ names y
 
 -- only 2 and 9 have a code
 coded : (x : Refusal) → known (code_of x) ≡ (eqb (number_of x) 2 || eqb (number_of x) 9)
@@ -79,35 +76,35 @@ coded BadSetup = refl
 both_coded : (x y : Refusal) → number_of x ≡ number_of y → known (code_of x) ≡ known (code_of y)
 both_coded x y n = coded x ∙ ap (λ (m : ℕ). eqb m 2 || eqb m 9) n ∙ sym (coded y)
 
-pub refused_inj : {x y : Refusal} → Refused x ≡ Refused y → x ≡ y
+pub refused_inj : {T : Type 0} {x y : Refusal} → ◌≡◌ {A = Result T Refusal} (Err x) (Err y) → x ≡ y
 refused_inj e = cc
 
-pub not_done : {A : Type 0} {x : Refusal} → Done ≡ Refused x → A
+pub not_done : {T A : Type 0} {y : T} {x : Refusal} → ◌≡◌ {A = Result T Refusal} (Ok y) (Err x) → A
 not_done e = let z : ◌≡◌ {A = ℕ} 0 1 = cc in absurd (omega arith)
 
 -- ---- a chain of refusals
 
 -- after a stop or a reset, its code
-abbrev pub unless : (ℕ → Refusal) → OptionU64 → Answer → Answer
+abbrev pub unless : (ℕ → Refusal) → Option ℕ → Result ⊤ Refusal → Result ⊤ Refusal
 unless why None rest = rest
-unless why (Some c) rest = Refused (why c)
+unless why (Some c) rest = Err (why c)
 
 pub data Line : Type 1 where
   line : (why : Refusal) {t : Bool} {P Q : Type 0} → Test t P Q → Line
-  code : (number : ℕ) (why : ℕ → Refusal) → ((c : ℕ) → (number_of (why c) ≡ number) × (code_of (why c) ≡ Some c)) → OptionU64 → Line
+  code : (number : ℕ) (why : ℕ → Refusal) → ((c : ℕ) → (number_of (why c) ≡ number) × (code_of (why c) ≡ Some c)) → Option ℕ → Line
 
-abbrev pub stopped : OptionU64 → Line
+abbrev pub stopped : Option ℕ → Line
 stopped f = code 2 Stopped (λ c. (refl, refl)) f
 
-abbrev pub was_reset : OptionU64 → Line
+abbrev pub was_reset : Option ℕ → Line
 was_reset f = code 9 Reset (λ c. (refl, refl)) f
 
-abbrev pub step : Line → Answer → Answer
-step (line why {t} {P} {Q} x) rest = cond t (Refused why) rest
+abbrev pub step : Line → Result ⊤ Refusal → Result ⊤ Refusal
+step (line why {t} {P} {Q} x) rest = cond t (Err why) rest
 step (code n why w f) rest = unless why f rest
 
-abbrev pub said : List Line → Answer
-said [] = Done
+abbrev pub said : List Line → Result ⊤ Refusal
+said [] = Ok tt
 said (l ∷ ls) = step l (said ls)
 
 abbrev pub number : Line → ℕ
@@ -151,27 +148,27 @@ fit (l ∷ ls) = plain l && (not (listed (number l) ls) && fit ls)
 -- ---- the law of one line
 
 -- it refuses what has its number exactly if it applies, where the lines behind it do not refuse that
-hit : (l : Line) (x : Refusal) (rest : Answer) → plain l ≡ true → number_of x ≡ number l → ¬ (rest ≡ Refused x)
-    → (step l rest ≡ Refused x) ↔ Applies l x
+hit : (l : Line) (x : Refusal) (rest : Result ⊤ Refusal) → plain l ≡ true → number_of x ≡ number l → ¬ (rest ≡ Err x)
+    → (step l rest ≡ Err x) ↔ Applies l x
 hit (line why {t} {P} {Q} e) x rest p n behind =
-    (go t refl, λ h. rw (e.yes.1 h) (ap Refused (same_refusal why x (sym n) (known_not (code_of why) c ∙ sym (known_not (code_of x) (both_coded x why n ∙ c))))))
+    (go t refl, λ h. rw (e.yes.1 h) (ap Err (same_refusal why x (sym n) (known_not (code_of why) c ∙ sym (known_not (code_of x) (both_coded x why n ∙ c))))))
   where
     c : known (code_of why) ≡ false
     c = not-true (known (code_of why)) p
 
-    go : (b : Bool) → t ≡ b → cond b (Refused why) rest ≡ Refused x → P
+    go : (b : Bool) → t ≡ b → cond b (Err why) rest ≡ Err x → P
     go true q r = e.yes.0 q
     go false q r = absurd (behind r)
 hit (code n why w None) x rest p m behind =
     (λ e. absurd (behind e), λ e. clash (sym (ap known (w 0).1) ∙ both_coded (why 0) x ((w 0).0 ∙ sym m) ∙ ap known (sym e)))
 hit (code n why w (Some c)) x rest p m behind =
-    (λ e. sym (w c).1 ∙ ap code_of (refused_inj e), λ e. ap Refused (same_refusal (why c) x ((w c).0 ∙ sym m) ((w c).1 ∙ e)))
+    (λ e. sym (w c).1 ∙ ap code_of (refused_inj e), λ e. ap Err (same_refusal (why c) x ((w c).0 ∙ sym m) ((w c).1 ∙ e)))
 
 -- it leaves every other refusal to the lines behind it, if it lets pass
-miss : (l : Line) (x : Refusal) (rest : Answer) → number_of x ≢ number l → (step l rest ≡ Refused x) ↔ (Passes l and (rest ≡ Refused x))
+miss : (l : Line) (x : Refusal) (rest : Result ⊤ Refusal) → number_of x ≢ number l → (step l rest ≡ Err x) ↔ (Passes l and (rest ≡ Err x))
 miss (line why {t} {P} {Q} e) x rest n = (go t refl, λ h. rw (e.no.1 h.0) h.1)
   where
-    go : (b : Bool) → t ≡ b → cond b (Refused why) rest ≡ Refused x → Q and (rest ≡ Refused x)
+    go : (b : Bool) → t ≡ b → cond b (Err why) rest ≡ Err x → Q and (rest ≡ Err x)
     go true q r = absurd (n (ap number_of (sym (refused_inj r))))
     go false q r = (e.no.0 q, r)
 miss (code n why w None) x rest m = (λ e. (refl, e), λ h. h.1)
@@ -179,7 +176,7 @@ miss (code n why w (Some c)) x rest m = (λ e. absurd (m (ap number_of (sym (ref
 
 -- ---- the law of a chain
 
-pub only : (ls : List Line) (x : Refusal) → said ls ≡ Refused x → OneOf (number_of x) (numbers ls)
+pub only : (ls : List Line) (x : Refusal) → said ls ≡ Err x → OneOf (number_of x) (numbers ls)
 only [] x e = not_done e
 only (l ∷ ls) x e = by_test (eqb (number_of x) (number l)) (λ q. inl (eqb-true (number_of x) (number l) q))
     (λ q. inr (only ls x ((miss l x (said ls) (eqb-false (number_of x) (number l) q)).0 e).1))
@@ -188,7 +185,7 @@ unlisted : (n : ℕ) (ls : List Line) → listed n ls ≡ false → ¬ OneOf n (
 unlisted n [] e h = h
 unlisted n (l ∷ ls) e h = let p = or_false (eqb n (number l)) (listed n ls) e in either h (eqb-false n (number l) p.0) (unlisted n ls p.1)
 
-pub exactly : (ls : List Line) (x : Refusal) → fit ls ≡ true → (said ls ≡ Refused x) ↔ When x ls
+pub exactly : (ls : List Line) (x : Refusal) → fit ls ≡ true → (said ls ≡ Err x) ↔ When x ls
 exactly [] x f = (λ e. not_done e, λ h. absurd h)
 exactly (l ∷ ls) x f = go (eqb (number_of x) (number l)) refl (exactly ls x q.1)
   where
@@ -198,8 +195,8 @@ exactly (l ∷ ls) x f = go (eqb (number_of x) (number l)) refl (exactly ls x q.
     q : (not (listed (number l) ls) ≡ true) × (fit ls ≡ true)
     q = and_true (not (listed (number l) ls)) (fit ls) p.1
 
-    go : (b : Bool) → eqb (number_of x) (number l) ≡ b → (said ls ≡ Refused x) ↔ When x ls
-        → (step l (said ls) ≡ Refused x) ↔ choose b (Applies l x) (Passes l and When x ls)
+    go : (b : Bool) → eqb (number_of x) (number l) ≡ b → (said ls ≡ Err x) ↔ When x ls
+        → (step l (said ls) ≡ Err x) ↔ choose b (Applies l x) (Passes l and When x ls)
     go true r h = let n = eqb-true (number_of x) (number l) r in
         hit l x (said ls) p.0 n (λ e. unlisted (number l) ls (not-true (listed (number l) ls) q.0) (rw n at (only ls x e)))
     go false r h = Iff.trans (miss l x (said ls) (eqb-false (number_of x) (number l) r)) (Iff.and Iff.rfl h)

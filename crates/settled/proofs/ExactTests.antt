@@ -1,5 +1,6 @@
 -- Tests and what they say: a `Test t P Q` is that t holds exactly if P, and fails exactly if Q. Those of numbers, flags and codes, and those made of
 -- others by `not`, `&&` and `||`. Assumes nothing.
+use Rattle.std.specs.Prelude.{Option, None, Some}
 use mathlib.Core.Path.{◌≡◌, refl, sym, ap, ◌∙◌}
 use mathlib.Core.Logic.Iff
 use mathlib.Core.Logic.{◌↔◌, ◌≢◌, inl, inr}
@@ -9,8 +10,6 @@ use lib.Dec.{ltb, leb, eqb}
 use borrow.Author.Tests.{ltb-true, ltb-false, leb-true, leb-false, eqb-true, eqb-false, lt-ltb, le-ltb, le-leb, lt-leb, eq-eqb, ne_eqb, not-true, not-false}
 use Rattle.tables.proofs.Tests.{either, clash, and_true, and-false, or-true, or_false}
 use Rattle.refusal.specs.Rules.{known}
-use Rattle.refusal.specs.declared.OptionU64.{OptionU64}
-use Rattle.refusal.specs.declared.OptionU64.TheVariants.{None, Some}
 use Rattle.refusal.proofs.Answers.{known_is, known_not}
 use Rattle.settled.specs.Conditions.{◌and◌, ◌or◌}
 
@@ -88,5 +87,5 @@ module _ {t : Bool} {P Q : Type 0} (x : Test t P Q) where
       off h false q = refl
 
 -- a number is known, or it is not
-pub is_known : (f : OptionU64) → Test (known f) ((n : ℕ) × (f ≡ Some n)) (f ≡ None)
+pub is_known : (f : Option ℕ) → Test (known f) ((n : ℕ) × (f ≡ Some n)) (f ≡ None)
 is_known f = record { yes = (known_is f, λ h. ap known h.1); no = (known_not f, λ h. ap known h) }

@@ -1,5 +1,7 @@
--- Two wrong answers for each public function of `refusal`, `arena`, `range_buf`, `flowcontrol` and `ranges`: none meets its contract.
--- A line is CASE never WRONG; the comment above a function's lines names it and says what is wrong. By computing. Assumes nothing.
+-- Two wrong answers for each public function of `refusal`, `arena`, `range_buf`, `flowcontrol` and `ranges`: none meets its contract. And for the
+-- small words that many contracts cite.
+-- A line is CASE never WRONG; the comment above a function's or a word's lines names it and says what is wrong. By computing. Assumes nothing.
+use Rattle.std.specs.Prelude.{Option, None, Some, Ok, Err, ⊤}
 use mathlib.Core.Path.{refl}
 use mathlib.Core.Bool.{true}
 use mathlib.Core.List.{List, [], ◌∷◌, ◌++◌}
@@ -7,26 +9,18 @@ use Prim.Native.Nat.{ℕ, ◌+◌, ◌-◌, min, max}
 use lib.Dec.{ltb}
 use lib.ListN.{length, replicate}
 use Rattle.tables.specs.Checks.{table_by}
-use Rattle.refusal.specs.Rules.{M, number_of, code_of, told, told_count, told_emit, told_sizes, with_count, with_bytes, with_sizes, known, is_at, is_other}
-use Rattle.refusal.specs.declared.Answer.TheVariants.{Done, Refused}
-use Rattle.refusal.specs.declared.CountAnswer.TheVariants.{Count}
-use Rattle.refusal.specs.declared.EmitAnswer.TheVariants.{Emitted}
-use Rattle.refusal.specs.declared.SizesAnswer.TheVariants.{Sizes}
+use Rattle.refusal.specs.Rules.{M, number_of, code_of, no_values, count_values, bytes_values, sizes_values, told, told_count, told_emit, told_sizes, first_two, with_count, with_bytes, with_sizes, known, is_at, is_other}
+use Rattle.refusal.specs.declared.Outcome.{Outcome}
 use Rattle.refusal.specs.declared.Refusal.TheVariants.{Stopped, NoRoom, TableFull, Reset}
-use Rattle.refusal.specs.declared.OptionU64.TheVariants.{None, Some}
 use Rattle.arena.specs.Rules.{kept, held, handed}
 use Rattle.range_buf.specs.declared.RangeBuf.{RangeBuf}
-use Rattle.range_buf.specs.declared.Outcome.{Outcome as ChunkOutcome}
 use Rattle.range_buf.specs.Rules as chunk
 use Rattle.range_buf.specs.Check.{is_zero, good_by as good_chunk}
 use Rattle.flowcontrol.specs.declared.FlowControl.{FlowControl}
-use Rattle.flowcontrol.specs.declared.Outcome.{Outcome as WindowOutcome}
 use Rattle.flowcontrol.specs.Rules as window
 use Rattle.flowcontrol.specs.Check.{good_by as good_window}
+use Rattle.ranges.specs.declared.Range.{Range}
 use Rattle.ranges.specs.declared.RangeSet.{RangeSet}
-use Rattle.ranges.specs.declared.Outcome.{Outcome as SetOutcome}
-use Rattle.ranges.specs.declared.OptionRange.{OptionRange}
-use Rattle.ranges.specs.declared.OptionRange.TheVariants.{None as NoRange, Some as SomeRange}
 use Rattle.ranges.specs.State.{upto, set_of, ranges}
 use Rattle.ranges.specs.Rules as set
 use Rattle.ranges.specs.Check.{good_by as good_set}
@@ -34,6 +28,9 @@ use Rattle.settled.specs.Wrong.{Case, ◌never◌, RuledOut, bit, numbers, maybe
 use Rattle.settled.proofs.Ruled.{by_computing}
 
 -- ---- refusal
+
+abbrev pair : (ℕ × ℕ) → List ℕ
+pair (a, b) = a ∷ b ∷ []
 
 abbrev refusals : List Case
 refusals =
@@ -43,34 +40,39 @@ refusals =
     -- Refusal::code: a code lost; a code that the refusal does not have
     ∷ (maybe (code_of (Reset 7)) never [])
     ∷ (maybe (code_of NoRoom) never (0 ∷ []))
-    -- number of each kind of answer: a success that looks refused; a refusal that looks like success
-    ∷ (numbers (told Done) never (8 ∷ []))
-    ∷ (numbers (told (Refused NoRoom)) never (0 ∷ []))
-    ∷ (numbers (told_count (Count 3)) never (1 ∷ 3 ∷ []))
-    ∷ (numbers (told_count (with_count (Refused (Stopped 7)) 3)) never (0 ∷ 3 ∷ []))
-    ∷ (numbers (told_emit (Emitted 3 true)) never (1 ∷ 3 ∷ 1 ∷ []))
-    ∷ (numbers (told_emit (with_bytes (Refused (Reset 7)) 3 true)) never (0 ∷ 3 ∷ 1 ∷ []))
-    ∷ (numbers (told_sizes (Sizes 3 4)) never (1 ∷ 3 ∷ 4 ∷ []))
-    ∷ (numbers (told_sizes (with_sizes (Refused TableFull) 3 4)) never (0 ∷ 3 ∷ 4 ∷ []))
-    -- Answer::with_count: the count forgotten; a refusal under another number
-    ∷ (numbers (told_count (with_count Done 3)) never (0 ∷ 0 ∷ []))
-    ∷ (numbers (told_count (with_count (Refused TableFull) 3)) never (5 ∷ []))
-    -- Answer::with_bytes: the mark forgotten; the count forgotten
-    ∷ (numbers (told_emit (with_bytes Done 3 true)) never (0 ∷ 3 ∷ 0 ∷ []))
-    ∷ (numbers (told_emit (with_bytes Done 3 true)) never (0 ∷ 0 ∷ 1 ∷ []))
-    -- Answer::with_sizes: the two turned round; the second forgotten
-    ∷ (numbers (told_sizes (with_sizes Done 3 4)) never (0 ∷ 4 ∷ 3 ∷ []))
-    ∷ (numbers (told_sizes (with_sizes Done 3 4)) never (0 ∷ 3 ∷ 0 ∷ []))
-    -- OptionU64::is_known: 0 taken for nothing; nothing taken for a number
+    -- number, of each kind of answer: a success that looks refused; a refusal that looks like success
+    ∷ (numbers (told (Ok tt)) never (8 ∷ []))
+    ∷ (numbers (told (Err NoRoom)) never (0 ∷ []))
+    ∷ (numbers (told_count (Ok 3)) never (1 ∷ 3 ∷ []))
+    ∷ (numbers (told_count (with_count (Err (Stopped 7)) 3)) never (0 ∷ 3 ∷ []))
+    ∷ (numbers (told_emit (Ok (3, true))) never (1 ∷ 3 ∷ 1 ∷ []))
+    ∷ (numbers (told_emit (with_bytes (Err (Reset 7)) 3 true)) never (0 ∷ 3 ∷ 1 ∷ []))
+    ∷ (numbers (told_sizes (Ok (3, 4))) never (1 ∷ 3 ∷ 4 ∷ []))
+    ∷ (numbers (told_sizes (with_sizes (Err TableFull) 3 4)) never (0 ∷ 3 ∷ 4 ∷ []))
+    -- Values::first_two, of each kind of success: a value where there is none; the two turned round; one forgotten
+    ∷ (pair (first_two (no_values tt)) never (1 ∷ 0 ∷ []))
+    ∷ (pair (first_two (count_values 3)) never (0 ∷ 3 ∷ []))
+    ∷ (pair (first_two (bytes_values (3, true))) never (3 ∷ 0 ∷ []))
+    ∷ (pair (first_two (sizes_values (3, 4))) never (4 ∷ 3 ∷ []))
+    -- with_count: the count forgotten; a refusal under another number
+    ∷ (numbers (told_count (with_count (Ok tt) 3)) never (0 ∷ 0 ∷ []))
+    ∷ (numbers (told_count (with_count (Err TableFull) 3)) never (5 ∷ []))
+    -- with_bytes: the mark forgotten; the count forgotten
+    ∷ (numbers (told_emit (with_bytes (Ok tt) 3 true)) never (0 ∷ 3 ∷ 0 ∷ []))
+    ∷ (numbers (told_emit (with_bytes (Ok tt) 3 true)) never (0 ∷ 0 ∷ 1 ∷ []))
+    -- with_sizes: the two turned round; the second forgotten
+    ∷ (numbers (told_sizes (with_sizes (Ok tt) 3 4)) never (0 ∷ 4 ∷ 3 ∷ []))
+    ∷ (numbers (told_sizes (with_sizes (Ok tt) 3 4)) never (0 ∷ 3 ∷ 0 ∷ []))
+    -- known: 0 taken for nothing; nothing taken for a number
     ∷ (bit (known (Some 0)) never (0 ∷ []))
     ∷ (bit (known None) never (1 ∷ []))
-    -- OptionU64::is_at: any number; nothing taken for 0
+    -- is_at: any number; nothing taken for 0
     ∷ (bit (is_at (Some 5) 4) never (1 ∷ []))
     ∷ (bit (is_at None 0) never (1 ∷ []))
-    -- OptionU64::is_other: the same number; nothing taken for another
+    -- is_other: the same number; nothing taken for another
     ∷ (bit (is_other (Some 5) 5) never (1 ∷ []))
     ∷ (bit (is_other None 5) never (1 ∷ []))
-    -- least, most, saturating_sub: the other of the two; a difference that wraps, or is lost
+    -- min, max, and a difference: the other of the two; a difference that wraps, or is lost
     ∷ ((min 3 4 ∷ []) never (4 ∷ []))
     ∷ ((min 4 3 ∷ []) never (4 ∷ []))
     ∷ ((max 3 4 ∷ []) never (3 ∷ []))
@@ -109,8 +111,8 @@ arenas =
 abbrev six : RangeBuf
 six = record { off = 10; len = 6; pos = 2 }
 
-abbrev chunk_said : ChunkOutcome → List ℕ
-chunk_said o = numbers (told o.answer) ++ chunk_list (o.buf ∷ [])
+abbrev chunk_said : Outcome ⊤ RangeBuf → List ℕ
+chunk_said o = numbers (told o.answer) ++ chunk_list (o.state ∷ [])
 
 abbrev chunks : List Case
 chunks =
@@ -134,7 +136,7 @@ chunks =
     ∷ (chunk_said (chunk.consumed six 5) never (0 ∷ 10 ∷ 6 ∷ 7 ∷ []))
     -- split_off: the right part forgets what was consumed; the left part keeps more than it has
     ∷ (numbers (chunk.told_split (chunk.split six 1).answer) never (0 ∷ 11 ∷ 5 ∷ 0 ∷ []))
-    ∷ (chunk_list ((chunk.split six 1).buf ∷ []) never (10 ∷ 1 ∷ 2 ∷ []))
+    ∷ (chunk_list ((chunk.split six 1).state ∷ []) never (10 ∷ 1 ∷ 2 ∷ []))
     -- is_good: a good chunk refused; one consumed past its end let through
     ∷ (bit (good_chunk six) never (0 ∷ []))
     ∷ (bit (good_chunk (record { off = 10; len = 1; pos = 2 })) never (1 ∷ []))
@@ -153,8 +155,8 @@ nine = window.with_consumed (window.fresh 16 16 24) 9
 abbrev flow : FlowControl → List ℕ
 flow f = f.consumed ∷ f.max_data ∷ f.window ∷ f.max_window ∷ maybe f.last_update
 
-abbrev window_said : WindowOutcome → List ℕ
-window_said o = numbers (told o.answer) ++ flow o.flow
+abbrev window_said : Outcome ⊤ FlowControl → List ℕ
+window_said o = numbers (told o.answer) ++ flow o.state
 
 abbrev windows : List Case
 windows =
@@ -203,12 +205,12 @@ windows =
 abbrev two : RangeSet
 two = set_of 2 (upto 10 12 ∷ upto 20 22 ∷ [])
 
-abbrev range_said : OptionRange → List ℕ
-range_said NoRange = []
-range_said (SomeRange r) = r.start ∷ r.end ∷ []
+abbrev range_said : Option Range → List ℕ
+range_said None = []
+range_said (Some r) = r.start ∷ r.end ∷ []
 
-abbrev set_said : SetOutcome → List ℕ
-set_said o = numbers (told o.answer) ++ range_list (ranges o.set)
+abbrev set_said : Outcome ⊤ RangeSet → List ℕ
+set_said o = numbers (told o.answer) ++ range_list (ranges o.state)
 
 abbrev sets : List Case
 sets =

@@ -1,17 +1,16 @@
 -- Two wrong answers for each public function of `recv_buf`: none meets its contract. A line is CASE never WRONG; the comment above a function's
 -- lines names it and says what is wrong. Each buffer below came from creation and calls. By computing. Assumes nothing.
+use Rattle.std.specs.Prelude.{Bool, ⊤}
 use mathlib.Core.Path.{refl}
 use mathlib.Core.Bool.{true, false}
 use mathlib.Core.List.{List, [], ◌∷◌, ◌++◌}
 use Prim.Native.Nat.{ℕ, ◌+◌}
 use lib.ListN.{replicate}
 use Rattle.refusal.specs.Rules.{M, told, told_count, told_emit, told_sizes, is_at}
+use Rattle.refusal.specs.declared.Outcome.{Outcome}
 use Rattle.arena.specs.Rules.{held}
 use Rattle.flowcontrol.specs.Rules.{next, fresh}
-use Rattle.recv_buf.specs.declared.Outcome.{Outcome}
-use Rattle.recv_buf.specs.declared.CountOutcome.{CountOutcome}
-use Rattle.recv_buf.specs.declared.EmitOutcome.{EmitOutcome}
-use Rattle.recv_buf.specs.declared.SizesOutcome.{SizesOutcome}
+use Rattle.recv_buf.specs.declared.RecvBuf.{RecvBuf}
 use Rattle.recv_buf.specs.State.{Recv, view_of, buf_of}
 use Rattle.recv_buf.specs.Check.{good_by}
 use Rattle.recv_buf.specs.Rules.{with_ends, created, write_judged, wrote, written, written_arena, is_ready, take_judged, took_out, discarded, emitted, emitted_out, reset_judged, was_reset, resets, shuts, commits, autotunes, flow_back, almost_full, readable}
@@ -21,38 +20,38 @@ use Rattle.settled.proofs.Ruled.{by_computing}
 -- ---- the buffers: limit 12, maximum window 24, an arena of 16 bytes
 
 abbrev new : Recv
-new = view_of (created 12 24 16).buf
+new = view_of (created 12 24 16).state
 
 -- the same with limits of 40 and an arena of 8 bytes
 abbrev eight : Recv
-eight = view_of (created 40 40 8).buf
+eight = view_of (created 40 40 8).state
 
 -- 5..10 came; then 0..7, so that 0..5 and 5..10 are kept; then four bytes were handed out
 abbrev later : Recv
-later = view_of (written new 16 5 5 false).buf
+later = view_of (written new 16 5 5 false).state
 
 abbrev both : Recv
-both = view_of (written later 16 0 7 false).buf
+both = view_of (written later 16 0 7 false).state
 
 abbrev four : Recv
-four = view_of (emitted both 16 4).buf
+four = view_of (emitted both 16 4).state
 
 -- the mark came at 10 by a frame of no bytes, and all was handed out
 abbrev ended : Recv
-ended = view_of (written four 16 10 0 true).buf
+ended = view_of (written four 16 10 0 true).state
 
 abbrev drained : Recv
-drained = view_of (emitted ended 16 9).buf
+drained = view_of (emitted ended 16 9).state
 
 -- an empty mark alone; shut down; reset to 12 with code 7
 abbrev marked : Recv
-marked = view_of (written new 16 10 0 true).buf
+marked = view_of (written new 16 10 0 true).state
 
 abbrev shut : Recv
-shut = view_of (shuts four).buf
+shut = view_of (shuts four).state
 
 abbrev was_told : Recv
-was_told = view_of (resets four 7 12).buf
+was_told = view_of (resets four 7 12).state
 
 -- ---- how they are read off
 
@@ -60,16 +59,16 @@ was_told = view_of (resets four 7 12).buf
 abbrev state : Recv → List ℕ
 state r = r.off ∷ r.len ∷ r.flow.consumed ∷ maybe r.fin ++ chunk_list r.chunks
 
-abbrev plain : Outcome → List ℕ
+abbrev plain : Outcome ⊤ RecvBuf → List ℕ
 plain o = numbers (told o.answer)
 
-abbrev count : CountOutcome → List ℕ
+abbrev count : Outcome ℕ RecvBuf → List ℕ
 count o = numbers (told_count o.answer)
 
-abbrev bytes : EmitOutcome → List ℕ
+abbrev bytes : Outcome (ℕ × Bool) RecvBuf → List ℕ
 bytes o = numbers (told_emit o.answer)
 
-abbrev sizes : SizesOutcome → List ℕ
+abbrev sizes : Outcome (ℕ × ℕ) RecvBuf → List ℕ
 sizes o = numbers (told_sizes o.answer)
 
 abbrev calls : List Case
@@ -102,7 +101,7 @@ calls =
     ∷ (emitted_out four (1 ∷ 2 ∷ 3 ∷ 4 ∷ 5 ∷ 6 ∷ 7 ∷ 8 ∷ 9 ∷ 10 ∷ replicate 6 0) (0 ∷ 0 ∷ []) never (0 ∷ 0 ∷ []))
     ∷ (emitted_out four (1 ∷ 2 ∷ 3 ∷ 4 ∷ 5 ∷ 6 ∷ 7 ∷ 8 ∷ 9 ∷ 10 ∷ replicate 6 0) (0 ∷ 0 ∷ []) never (1 ∷ 2 ∷ []))
     -- discard: nothing consumed; a success with nothing ready
-    ∷ (((view_of (discarded both 4).buf).flow.consumed ∷ []) never (0 ∷ []))
+    ∷ (((view_of (discarded both 4).state).flow.consumed ∷ []) never (0 ∷ []))
     ∷ (bytes (discarded later 4) never (0 ∷ 0 ∷ 0 ∷ []))
     -- reset: a size below what came let through; the sizes turned round
     ∷ (sizes (resets four 7 8) never (0 ∷ 0 ∷ 4 ∷ []))
@@ -149,7 +148,7 @@ questions =
     ∷ (bit shut.drain never (0 ∷ []))
     -- almost_full: with more than half a window left; with less, and F not known, taken for not
     ∷ (bit (almost_full four) never (1 ∷ []))
-    ∷ (bit (almost_full (view_of (emitted both 16 9).buf)) never (0 ∷ []))
+    ∷ (bit (almost_full (view_of (emitted both 16 9).state)) never (0 ∷ []))
     -- ready: a chunk behind a hole; an empty chunk at off taken for nothing
     ∷ (bit (is_ready later.chunks later.off) never (1 ∷ []))
     ∷ (bit (is_ready was_told.chunks was_told.off) never (0 ∷ []))

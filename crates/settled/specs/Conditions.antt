@@ -1,7 +1,6 @@
 -- The conditions of the ten refusals (docs/RULES.md, 2.1) in plain numbers: what proofs/Exact*.antt states its equivalences with.
 -- A chain of `and` is read from the left: what was tested before and let pass, in the order of docs/RULES.md, 2.2, and last the refusal's own condition.
-use Rattle.std.specs.Prelude.{◌≡◌, ◌⊎◌, ◌≢◌, Bool, true, false, List, [], ◌∷◌, ℕ, ◌+◌, ◌-◌, ◌≤◌, ◌<◌, length}
-use Rattle.refusal.specs.declared.OptionU64.TheVariants.{Some}
+use Rattle.std.specs.Prelude.{◌≡◌, ◌⊎◌, ◌≢◌, Bool, true, false, List, [], ◌∷◌, ℕ, ◌+◌, ◌-◌, ◌≤◌, ◌<◌, length, Some}
 use Rattle.range_buf.specs.declared.RangeBuf.{RangeBuf}
 use Rattle.range_buf.specs.Rules.{start}
 use Rattle.ranges.specs.declared.Range.{Range}

@@ -1,8 +1,7 @@
 -- A contract is an equation: what a call gives is a definition of its arguments. A case puts numbers into that definition and reads off what it
 -- says as a list of numbers (an answer's number and values, what it leaves in the state); beside it stands what a wrong program would give.
-use Rattle.std.specs.Prelude.{Bool, cond, List, [], ◌∷◌, ◌≢◌, ℕ}
+use Rattle.std.specs.Prelude.{Bool, cond, List, [], ◌∷◌, ◌≢◌, ℕ, Option}
 use Rattle.refusal.specs.Rules.{Told, list_of}
-use Rattle.refusal.specs.declared.OptionU64.{OptionU64}
 use Rattle.range_buf.specs.declared.RangeBuf.{RangeBuf}
 use Rattle.ranges.specs.declared.Range.{Range}
 
@@ -30,7 +29,7 @@ abbrev pub numbers : Told → List ℕ
 numbers t = t.number ∷ t.values
 
 -- a number that may be missing: nothing, or it
-abbrev pub maybe : OptionU64 → List ℕ
+abbrev pub maybe : Option ℕ → List ℕ
 maybe x = list_of x
 
 -- chunks (offset, length, consumed part) and ranges (start, end), one after the other

@@ -1,9 +1,7 @@
 -- The C states and answers, and the crates' own: what stands for what. A number that may be missing is a flag and a value, and an answer is
 -- the refusal's number with two values; everything else goes over field by field.
-use Rattle.std.specs.Prelude.{true, false, cond, ℕ, get_or}
+use Rattle.std.specs.Prelude.{true, false, cond, ℕ, get_or, Option, Some, None}
 use Rattle.refusal.specs.Rules.{Told}
-use Rattle.refusal.specs.declared.OptionU64.{OptionU64}
-use Rattle.refusal.specs.declared.OptionU64.TheVariants.{None, Some}
 use Rattle.flowcontrol.specs.declared.FlowControl.{FlowControl}
 use Rattle.send_buf.specs.declared.SendBuf.{SendBuf}
 use Rattle.recv_buf.specs.declared.RecvBuf.{RecvBuf}
@@ -14,17 +12,12 @@ use Rattle.stream_c.specs.declared.send.VkSendBuf.{VkSendBuf}
 use Rattle.stream_c.specs.declared.recv.VkRecvBuf.{VkRecvBuf}
 
 -- a number that may be missing
-unfoldable pub option_of : VkNumber → OptionU64
+unfoldable pub option_of : VkNumber → Option ℕ
 option_of n = cond n.known (Some n.value) None
 
-unfoldable pub vk_number : OptionU64 → VkNumber
+unfoldable pub vk_number : Option ℕ → VkNumber
 vk_number None = record { known = false; value = 0 }
 vk_number (Some n) = record { known = true; value = n }
-
--- a number, or 0
-unfoldable pub code_or0 : OptionU64 → ℕ
-code_or0 None = 0
-code_or0 (Some n) = n
 
 -- what an answer says, with 0 for the values that it does not have
 unfoldable pub padded : Told → VkAnswer

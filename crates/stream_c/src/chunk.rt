@@ -5,7 +5,8 @@ ghost use Rattle.range_buf.specs.Rules.{start, end, avail, is_empty, created, co
 ghost use Rattle.stream_c.specs.Rules.{chunk_out, split_out};
 
 use super::VkAnswer;
-use range_buf::{Outcome, RangeBuf, SplitAnswer, SplitOutcome};
+use range_buf::{RangeBuf, ZERO};
+use refusal::Outcome;
 
 // The chunk after a call, and what the call answered.
 #[repr(C)]
@@ -29,7 +30,7 @@ pub struct VkSplitOut {
 pub extern "C" fn vk_range_buf_from(off: u64, len: u64) -> VkRangeBufOut
     ensures { result ≡ chunk_out (created off len) }
 {
-    chunk_out(RangeBuf::from(off, len))
+    RangeBuf::from(off, len).into()
 }
 
 // The offset of the first byte that is not consumed.
@@ -73,7 +74,7 @@ pub extern "C" fn vk_range_buf_consume(buf: RangeBuf, count: u64) -> VkRangeBufO
     requires { Good buf }
     ensures { result ≡ chunk_out (consumed buf count) }
 {
-    chunk_out(buf.consume(count))
+    buf.consume(count).into()
 }
 
 // Splits the chunk behind its first `at` bytes. Offset.
@@ -82,43 +83,30 @@ pub extern "C" fn vk_range_buf_split_off(buf: RangeBuf, at: u64) -> VkSplitOut
     requires { Good buf }
     ensures { result ≡ split_out (split buf at) }
 {
-    split_out(buf.split_off(at))
+    buf.split_off(at).into()
 }
 
-fn chunk_out(out: Outcome) -> VkRangeBufOut
-    ensures { result ≡ chunk_out out }
-{
-    let answer = out.answer;
-    let buf = out.buf;
-    VkRangeBufOut {
-        buf,
-        answer: super::vk_answer(answer),
+impl From<Outcome<(), RangeBuf>> for VkRangeBufOut {
+    ghost from_gives = { λ o r. r ≡ chunk_out o };
+
+    #[tactic(auto, unfolding(crate::specs::Rules::chunk_out))]
+    fn from(out: Outcome<(), RangeBuf>) -> VkRangeBufOut {
+        VkRangeBufOut {
+            buf: out.state,
+            answer: out.answer.into(),
+        }
     }
 }
 
-fn split_out(out: SplitOutcome) -> VkSplitOut
-    ensures { result ≡ split_out out }
-{
-    let answer = out.answer;
-    let buf = out.buf;
-    match answer {
-        SplitAnswer::Right(right) => VkSplitOut {
-            buf,
-            right,
-            answer: VkAnswer {
-                number: 0,
-                first: 0,
-                second: 0,
-            },
-        },
-        SplitAnswer::Refused(why) => VkSplitOut {
-            buf,
-            right: RangeBuf {
-                off: 0,
-                len: 0,
-                pos: 0,
-            },
-            answer: super::vk_refusal(why),
-        },
+impl From<Outcome<RangeBuf, RangeBuf>> for VkSplitOut {
+    ghost from_gives = { λ o r. r ≡ split_out o };
+
+    #[tactic(auto, unfolding(crate::specs::Rules::split_out))]
+    fn from(out: Outcome<RangeBuf, RangeBuf>) -> VkSplitOut {
+        VkSplitOut {
+            buf: out.state,
+            right: out.answer.unwrap_or(ZERO),
+            answer: out.answer.map(|_| ()).into(),
+        }
     }
 }

@@ -5,12 +5,13 @@ ghost use Rattle.flowcontrol.specs.Rules.{next};
 ghost use Rattle.recv_buf.specs.State.{Good, view_of};
 ghost use Rattle.recv_buf.specs.Rules.{created, written, written_arena, emitted, emitted_out, discarded, resets, shuts, commits, autotunes, flow_back, almost_full, is_ready, readable};
 ghost use Rattle.stream_c.specs.State.{flow_of, vk_flow, recv_of, vk_recv};
-ghost use Rattle.stream_c.specs.Rules.{recv_out, recv_count, recv_emit, recv_sizes};
+ghost use Rattle.stream_c.specs.Rules.{recv_by, recv_out, recv_count, recv_emit, recv_sizes};
 ghost use Rattle.refusal.specs.Rules.{is_at};
 
 use super::{VkAnswer, VkFlowControl, VkNumber};
 use range_buf::RangeBuf;
-use recv_buf::{CountOutcome, EmitOutcome, Outcome, RecvBuf, SizesOutcome};
+use recv_buf::RecvBuf;
+use refusal::{Outcome, Values};
 
 #[repr(C)]
 #[derive(Clone, Copy)]
@@ -46,7 +47,7 @@ pub struct VkRecvBufOut {
 pub extern "C" fn vk_recv_buf_new(max_data: u64, max_window: u64, arena: &[u8]) -> VkRecvBufOut
     ensures { result ≡ recv_out (created max_data max_window (length arena.now)) }
 {
-    recv_out(RecvBuf::new(max_data, max_window, arena))
+    RecvBuf::new(max_data, max_window, arena).into()
 }
 
 // Takes a frame of bytes at `off`, marked as the end or not. BadSetup, Offset, FlowControl, FinalSize, NoRoom, TableFull.
@@ -62,7 +63,7 @@ pub extern "C" fn vk_recv_buf_write(
     ensures value { result ≡ recv_out (written (view_of (recv_of buf)) (length arena.old) off (length input.now) fin) }
     ensures arena_after { arena.new ≡ written_arena (view_of (recv_of buf)) arena.old off input.now fin }
 {
-    recv_out(recv_of(buf).write(arena, off, input, fin))
+    RecvBuf::from(buf).write(arena, off, input, fin).into()
 }
 
 // Hands out up to as many bytes as `out` has; answers how many, and whether they reach the final size. BadSetup, Done, Reset, Offset.
@@ -72,7 +73,7 @@ pub extern "C" fn vk_recv_buf_emit(buf: VkRecvBuf, arena: &[u8], out: &mut [u8])
     ensures value { result ≡ recv_emit (emitted (view_of (recv_of buf)) (length arena.now) (length out.old)) }
     ensures out_after { out.new ≡ emitted_out (view_of (recv_of buf)) arena.now out.old }
 {
-    recv_emit(recv_of(buf).emit(arena, out))
+    RecvBuf::from(buf).emit(arena, out).into()
 }
 
 // The same with no output, for up to `len` bytes. Done, Reset, Offset.
@@ -81,7 +82,7 @@ pub extern "C" fn vk_recv_buf_discard(buf: VkRecvBuf, len: u64) -> VkRecvBufOut
     requires { Good (recv_of buf) }
     ensures { result ≡ recv_emit (discarded (view_of (recv_of buf)) len) }
 {
-    recv_emit(recv_of(buf).discard(len))
+    RecvBuf::from(buf).discard(len).into()
 }
 
 // The stream was reset at `size` with `code`; answers how far that is above the highest end, and above what was handed out.
@@ -91,7 +92,7 @@ pub extern "C" fn vk_recv_buf_reset(buf: VkRecvBuf, code: u64, size: u64) -> VkR
     requires { Good (recv_of buf) }
     ensures { result ≡ recv_sizes (resets (view_of (recv_of buf)) code size) }
 {
-    recv_sizes(recv_of(buf).reset(code, size))
+    RecvBuf::from(buf).reset(code, size).into()
 }
 
 // Nothing more will be read: answers how much is given up. Done.
@@ -100,7 +101,7 @@ pub extern "C" fn vk_recv_buf_shutdown(buf: VkRecvBuf) -> VkRecvBufOut
     requires { Good (recv_of buf) }
     ensures { result ≡ recv_count (shuts (view_of (recv_of buf))) }
 {
-    recv_count(recv_of(buf).shutdown())
+    RecvBuf::from(buf).shutdown().into()
 }
 
 // Commits the next limit.
@@ -109,7 +110,7 @@ pub extern "C" fn vk_recv_buf_update_max_data(buf: VkRecvBuf, now: u64) -> VkRec
     requires { Good (recv_of buf) }
     ensures { result ≡ vk_recv (commits (view_of (recv_of buf)) now) }
 {
-    vk_recv(recv_of(buf).update_max_data(now))
+    RecvBuf::from(buf).update_max_data(now).into()
 }
 
 // The limit that a commit would set.
@@ -118,7 +119,7 @@ pub extern "C" fn vk_recv_buf_max_data_next(buf: VkRecvBuf) -> u64
     requires { Good (recv_of buf) }
     ensures { result ≡ next (recv_of buf).flow_control }
 {
-    recv_of(buf).max_data_next()
+    RecvBuf::from(buf).max_data_next()
 }
 
 // The limit that frames are held to.
@@ -126,14 +127,14 @@ pub extern "C" fn vk_recv_buf_max_data_next(buf: VkRecvBuf) -> u64
 pub extern "C" fn vk_recv_buf_max_data(buf: VkRecvBuf) -> u64
     ensures { result ≡ (recv_of buf).flow_control.max_data }
 {
-    recv_of(buf).max_data()
+    RecvBuf::from(buf).max_data()
 }
 
 #[unsafe(no_mangle)]
 pub extern "C" fn vk_recv_buf_window(buf: VkRecvBuf) -> u64
     ensures { result ≡ (recv_of buf).flow_control.window }
 {
-    recv_of(buf).window()
+    RecvBuf::from(buf).window()
 }
 
 // Doubles the window, up to its maximum, where the last commit is less than two round trips ago.
@@ -142,7 +143,7 @@ pub extern "C" fn vk_recv_buf_autotune_window(buf: VkRecvBuf, now: u64, rtt: u64
     requires { Good (recv_of buf) }
     ensures { result ≡ vk_recv (autotunes (view_of (recv_of buf)) now rtt) }
 {
-    vk_recv(recv_of(buf).autotune_window(now, rtt))
+    RecvBuf::from(buf).autotune_window(now, rtt).into()
 }
 
 // How far was handed out.
@@ -150,7 +151,7 @@ pub extern "C" fn vk_recv_buf_autotune_window(buf: VkRecvBuf, now: u64, rtt: u64
 pub extern "C" fn vk_recv_buf_off_front(buf: VkRecvBuf) -> u64
     ensures { result ≡ (recv_of buf).off }
 {
-    recv_of(buf).off_front()
+    RecvBuf::from(buf).off_front()
 }
 
 // Is an update of the limit due, and the final size not known?
@@ -158,7 +159,7 @@ pub extern "C" fn vk_recv_buf_off_front(buf: VkRecvBuf) -> u64
 pub extern "C" fn vk_recv_buf_almost_full(buf: VkRecvBuf) -> bool
     ensures { result ≡ almost_full (view_of (recv_of buf)) }
 {
-    recv_of(buf).almost_full()
+    RecvBuf::from(buf).almost_full()
 }
 
 // The highest end seen.
@@ -166,7 +167,7 @@ pub extern "C" fn vk_recv_buf_almost_full(buf: VkRecvBuf) -> bool
 pub extern "C" fn vk_recv_buf_max_off(buf: VkRecvBuf) -> u64
     ensures { result ≡ (recv_of buf).len }
 {
-    recv_of(buf).max_off()
+    RecvBuf::from(buf).max_off()
 }
 
 // Was everything handed out, up to the final size?
@@ -174,7 +175,7 @@ pub extern "C" fn vk_recv_buf_max_off(buf: VkRecvBuf) -> u64
 pub extern "C" fn vk_recv_buf_is_fin(buf: VkRecvBuf) -> bool
     ensures { result ≡ is_at (recv_of buf).fin_off (recv_of buf).off }
 {
-    recv_of(buf).is_fin()
+    RecvBuf::from(buf).is_fin()
 }
 
 // Was the buffer shut down?
@@ -182,7 +183,7 @@ pub extern "C" fn vk_recv_buf_is_fin(buf: VkRecvBuf) -> bool
 pub extern "C" fn vk_recv_buf_is_draining(buf: VkRecvBuf) -> bool
     ensures { result ≡ (recv_of buf).drain }
 {
-    recv_of(buf).is_draining()
+    RecvBuf::from(buf).is_draining()
 }
 
 // Does the first chunk start at what is handed out next? An empty one tells of the end, or of a reset.
@@ -191,7 +192,7 @@ pub extern "C" fn vk_recv_buf_ready(buf: VkRecvBuf) -> bool
     requires { Good (recv_of buf) }
     ensures { result ≡ is_ready (view_of (recv_of buf)).chunks (recv_of buf).off }
 {
-    recv_of(buf).ready()
+    RecvBuf::from(buf).ready()
 }
 
 // How many bytes can be handed out, up to `max_len`.
@@ -200,7 +201,7 @@ pub extern "C" fn vk_recv_buf_readable_len(buf: VkRecvBuf, max_len: u64) -> u64
     requires { Good (recv_of buf) }
     ensures { result ≡ readable (view_of (recv_of buf)) max_len }
 {
-    recv_of(buf).readable_len(max_len)
+    RecvBuf::from(buf).readable_len(max_len)
 }
 
 // The window record, to be lent to the caller's loop.
@@ -208,7 +209,7 @@ pub extern "C" fn vk_recv_buf_readable_len(buf: VkRecvBuf, max_len: u64) -> u64
 pub extern "C" fn vk_recv_buf_flow_control(buf: VkRecvBuf) -> VkFlowControl
     ensures { result ≡ vk_flow (recv_of buf).flow_control }
 {
-    super::vk_flow(recv_of(buf).flow_control())
+    RecvBuf::from(buf).flow_control().into()
 }
 
 // The window record, taken back.
@@ -218,89 +219,57 @@ pub extern "C" fn vk_recv_buf_set_flow_control(buf: VkRecvBuf, flow: VkFlowContr
     requires good_flow { GoodFlow (flow_of flow) }
     ensures { result ≡ vk_recv (flow_back (view_of (recv_of buf)) (flow_of flow)) }
 {
-    vk_recv(recv_of(buf).set_flow_control(super::flow_of(flow)))
+    RecvBuf::from(buf).set_flow_control(flow.into()).into()
 }
 
-fn recv_of(buf: VkRecvBuf) -> RecvBuf
-    ensures { result ≡ recv_of buf }
-{
-    let data = buf.data;
-    let flow = buf.flow_control;
-    let fin = buf.fin_off;
-    let error = buf.error;
-    RecvBuf {
-        data,
-        count: buf.count,
-        off: buf.off,
-        len: buf.len,
-        flow_control: super::flow_of(flow),
-        fin_off: super::number_of(fin),
-        error: super::number_of(error),
-        drain: buf.drain,
-        arena_len: buf.arena_len,
+impl From<VkRecvBuf> for RecvBuf {
+    ghost from_gives = { λ b r. r ≡ recv_of b };
+
+    #[tactic(auto, unfolding(crate::specs::State::recv_of))]
+    fn from(vk: VkRecvBuf) -> RecvBuf {
+        let data = vk.data;
+        RecvBuf {
+            data,
+            count: vk.count,
+            off: vk.off,
+            len: vk.len,
+            flow_control: vk.flow_control.into(),
+            fin_off: vk.fin_off.into(),
+            error: vk.error.into(),
+            drain: vk.drain,
+            arena_len: vk.arena_len,
+        }
     }
 }
 
-fn vk_recv(buf: RecvBuf) -> VkRecvBuf
-    ensures { result ≡ vk_recv buf }
-{
-    let data = buf.data;
-    let flow = buf.flow_control;
-    let fin = buf.fin_off;
-    let error = buf.error;
-    VkRecvBuf {
-        data,
-        count: buf.count,
-        off: buf.off,
-        len: buf.len,
-        flow_control: super::vk_flow(flow),
-        fin_off: super::vk_number(fin),
-        error: super::vk_number(error),
-        drain: buf.drain,
-        arena_len: buf.arena_len,
+impl From<RecvBuf> for VkRecvBuf {
+    ghost from_gives = { λ b r. r ≡ vk_recv b };
+
+    #[tactic(auto, unfolding(crate::specs::State::vk_recv))]
+    fn from(buf: RecvBuf) -> VkRecvBuf {
+        let data = buf.data;
+        VkRecvBuf {
+            data,
+            count: buf.count,
+            off: buf.off,
+            len: buf.len,
+            flow_control: buf.flow_control.into(),
+            fin_off: buf.fin_off.into(),
+            error: buf.error.into(),
+            drain: buf.drain,
+            arena_len: buf.arena_len,
+        }
     }
 }
 
-fn recv_out(out: Outcome) -> VkRecvBufOut
-    ensures { result ≡ recv_out out }
-{
-    let answer = out.answer;
-    let buf = out.buf;
-    VkRecvBufOut {
-        buf: vk_recv(buf),
-        answer: super::vk_answer(answer),
-    }
-}
+impl<T: Values> From<Outcome<T, RecvBuf>> for VkRecvBufOut {
+    ghost from_gives = { λ o r. r ≡ recv_by T.values o };
 
-fn recv_count(out: CountOutcome) -> VkRecvBufOut
-    ensures { result ≡ recv_count out }
-{
-    let answer = out.answer;
-    let buf = out.buf;
-    VkRecvBufOut {
-        buf: vk_recv(buf),
-        answer: super::vk_count(answer),
-    }
-}
-
-fn recv_emit(out: EmitOutcome) -> VkRecvBufOut
-    ensures { result ≡ recv_emit out }
-{
-    let answer = out.answer;
-    let buf = out.buf;
-    VkRecvBufOut {
-        buf: vk_recv(buf),
-        answer: super::vk_emit(answer),
-    }
-}
-
-fn recv_sizes(out: SizesOutcome) -> VkRecvBufOut
-    ensures { result ≡ recv_sizes out }
-{
-    let answer = out.answer;
-    let buf = out.buf;
-    VkRecvBufOut {
-        buf: vk_recv(buf),
-        answer: super::vk_sizes(answer),
+    #[tactic(auto, unfolding(crate::specs::Rules::recv_by))]
+    fn from(out: Outcome<T, RecvBuf>) -> VkRecvBufOut {
+        VkRecvBufOut {
+            buf: out.state.into(),
+            answer: out.answer.into(),
+        }
     }
 }

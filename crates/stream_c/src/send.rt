@@ -4,12 +4,13 @@ ghost use Rattle.refusal.specs.Rules.{told_count, known, is_at};
 ghost use Rattle.send_buf.specs.State.{Good, view_of};
 ghost use Rattle.send_buf.specs.Rules.{created, written, written_arena, emitted, emitted_out, raised, blocked_with, acks, ack_drops, retransmits, resets, stops, shuts, front, is_complete, ack_off, cap};
 ghost use Rattle.stream_c.specs.State.{option_of, vk_number, padded, send_of, vk_send};
-ghost use Rattle.stream_c.specs.Rules.{send_out, send_count, send_emit, send_sizes};
+ghost use Rattle.stream_c.specs.Rules.{send_by, send_out, send_count, send_emit, send_sizes};
 
 use super::{VkAnswer, VkNumber};
 use range_buf::RangeBuf;
 use ranges::RangeSet;
-use send_buf::{CountOutcome, EmitOutcome, Outcome, SendBuf, SizesOutcome};
+use refusal::{Outcome, Values};
+use send_buf::SendBuf;
 
 #[repr(C)]
 #[derive(Clone, Copy)]
@@ -51,7 +52,7 @@ pub struct VkSendBufOut {
 pub extern "C" fn vk_send_buf_new(max_data: u64, arena: &[u8]) -> VkSendBufOut
     ensures { result ≡ send_out (created max_data (length arena.now)) }
 {
-    send_out(SendBuf::new(max_data, arena))
+    SendBuf::new(max_data, arena).into()
 }
 
 // Accepts bytes, and keeps them in the arena; answers how many. BadSetup, Stopped, FinalSize, NoRoom.
@@ -66,7 +67,7 @@ pub extern "C" fn vk_send_buf_write(
     ensures value { result ≡ send_count (written (view_of (send_of buf)) (length arena.old) (length input.now) fin) }
     ensures arena_after { arena.new ≡ written_arena (view_of (send_of buf)) arena.old input.now fin }
 {
-    send_count(send_of(buf).write(arena, input, fin))
+    SendBuf::from(buf).write(arena, input, fin).into()
 }
 
 // Copies out the bytes from the front offset on; answers how many, and whether they reach the final size. BadSetup.
@@ -76,7 +77,7 @@ pub extern "C" fn vk_send_buf_emit(buf: VkSendBuf, arena: &[u8], out: &mut [u8])
     ensures value { result ≡ send_emit (emitted (view_of (send_of buf)) (length arena.now) (length out.old)) }
     ensures out_after { out.new ≡ emitted_out (view_of (send_of buf)) arena.now out.old }
 {
-    send_emit(send_of(buf).emit(arena, out))
+    SendBuf::from(buf).emit(arena, out).into()
 }
 
 // Raises the limit; a smaller one has no effect. Offset.
@@ -85,7 +86,7 @@ pub extern "C" fn vk_send_buf_update_max_data(buf: VkSendBuf, max_data: u64) -> 
     requires { Good (send_of buf) }
     ensures { result ≡ send_out (raised (view_of (send_of buf)) max_data) }
 {
-    send_out(send_of(buf).update_max_data(max_data))
+    SendBuf::from(buf).update_max_data(max_data).into()
 }
 
 // Records the offset at which the stream was last blocked, or, with `known` false, that it is not.
@@ -98,7 +99,9 @@ pub extern "C" fn vk_send_buf_update_blocked_at(
     requires { Good (send_of buf) }
     ensures { result ≡ vk_send (blocked_with (view_of (send_of buf)) (option_of (record { known = known; value = value }))) }
 {
-    vk_send(send_of(buf).update_blocked_at(super::number_of(VkNumber { known, value })))
+    SendBuf::from(buf)
+        .update_blocked_at(VkNumber { known, value }.into())
+        .into()
 }
 
 // The offset at which the stream was last blocked.
@@ -106,7 +109,7 @@ pub extern "C" fn vk_send_buf_update_blocked_at(
 pub extern "C" fn vk_send_buf_blocked_at(buf: VkSendBuf) -> VkNumber
     ensures { result ≡ vk_number (view_of (send_of buf)).blocked }
 {
-    super::vk_number(send_of(buf).blocked_at())
+    SendBuf::from(buf).blocked_at().into()
 }
 
 // The range joins the acked set. NeverSent, TableFull.
@@ -115,7 +118,7 @@ pub extern "C" fn vk_send_buf_ack(buf: VkSendBuf, off: u64, len: u64) -> VkSendB
     requires { Good (send_of buf) }
     ensures { result ≡ send_out (acks (view_of (send_of buf)) off len) }
 {
-    send_out(send_of(buf).ack(off, len))
+    SendBuf::from(buf).ack(off, len).into()
 }
 
 // The same, and drops what lies below contiguous ack; answers how many of the dropped bytes were still to be sent. NeverSent, TableFull.
@@ -124,7 +127,7 @@ pub extern "C" fn vk_send_buf_ack_and_drop(buf: VkSendBuf, off: u64, len: u64) -
     requires { Good (send_of buf) }
     ensures { result ≡ send_count (ack_drops (view_of (send_of buf)) off len) }
 {
-    send_count(send_of(buf).ack_and_drop(off, len))
+    SendBuf::from(buf).ack_and_drop(off, len).into()
 }
 
 // The range was lost: it is to be sent again. Answers how many bytes that puts back. NeverSent, TableFull.
@@ -133,7 +136,7 @@ pub extern "C" fn vk_send_buf_retransmit(buf: VkSendBuf, off: u64, len: u64) -> 
     requires { Good (send_of buf) }
     ensures { result ≡ send_count (retransmits (view_of (send_of buf)) off len) }
 {
-    send_count(send_of(buf).retransmit(off, len))
+    SendBuf::from(buf).retransmit(off, len).into()
 }
 
 // Ends the stream where it was sent to, and drops what it holds. Answers the largest offset that was sent, and how many bytes never were.
@@ -142,7 +145,7 @@ pub extern "C" fn vk_send_buf_reset(buf: VkSendBuf) -> VkSendBufOut
     requires { Good (send_of buf) }
     ensures { result ≡ send_sizes (resets (view_of (send_of buf))) }
 {
-    send_sizes(send_of(buf).reset())
+    SendBuf::from(buf).reset().into()
 }
 
 // The peer asks to stop: resets the stream and records the code. Done.
@@ -151,7 +154,7 @@ pub extern "C" fn vk_send_buf_stop(buf: VkSendBuf, code: u64) -> VkSendBufOut
     requires { Good (send_of buf) }
     ensures { result ≡ send_sizes (stops (view_of (send_of buf)) code) }
 {
-    send_sizes(send_of(buf).stop(code))
+    SendBuf::from(buf).stop(code).into()
 }
 
 // Resets the stream, and sends no more. Done.
@@ -160,7 +163,7 @@ pub extern "C" fn vk_send_buf_shutdown(buf: VkSendBuf) -> VkSendBufOut
     requires { Good (send_of buf) }
     ensures { result ≡ send_sizes (shuts (view_of (send_of buf))) }
 {
-    send_sizes(send_of(buf).shutdown())
+    SendBuf::from(buf).shutdown().into()
 }
 
 // The end of what was written.
@@ -168,7 +171,7 @@ pub extern "C" fn vk_send_buf_shutdown(buf: VkSendBuf) -> VkSendBufOut
 pub extern "C" fn vk_send_buf_off_back(buf: VkSendBuf) -> u64
     ensures { result ≡ (view_of (send_of buf)).off }
 {
-    send_of(buf).off_back()
+    SendBuf::from(buf).off_back()
 }
 
 // The offset of the first byte to be sent next, or the end of what was written.
@@ -177,7 +180,7 @@ pub extern "C" fn vk_send_buf_off_front(buf: VkSendBuf) -> u64
     requires { Good (send_of buf) }
     ensures { result ≡ front (view_of (send_of buf)) }
 {
-    send_of(buf).off_front()
+    SendBuf::from(buf).off_front()
 }
 
 // How far the peer lets us send.
@@ -185,7 +188,7 @@ pub extern "C" fn vk_send_buf_off_front(buf: VkSendBuf) -> u64
 pub extern "C" fn vk_send_buf_max_off(buf: VkSendBuf) -> u64
     ensures { result ≡ (view_of (send_of buf)).limit }
 {
-    send_of(buf).max_off()
+    SendBuf::from(buf).max_off()
 }
 
 // Is everything written, up to the final size?
@@ -193,7 +196,7 @@ pub extern "C" fn vk_send_buf_max_off(buf: VkSendBuf) -> u64
 pub extern "C" fn vk_send_buf_is_fin(buf: VkSendBuf) -> bool
     ensures { result ≡ is_at (view_of (send_of buf)).fin (view_of (send_of buf)).off }
 {
-    send_of(buf).is_fin()
+    SendBuf::from(buf).is_fin()
 }
 
 // Is everything acked, up to the final size?
@@ -202,7 +205,7 @@ pub extern "C" fn vk_send_buf_is_complete(buf: VkSendBuf) -> bool
     requires { Good (send_of buf) }
     ensures { result ≡ is_complete (view_of (send_of buf)) }
 {
-    send_of(buf).is_complete()
+    SendBuf::from(buf).is_complete()
 }
 
 // Was the stream stopped by the peer?
@@ -210,14 +213,14 @@ pub extern "C" fn vk_send_buf_is_complete(buf: VkSendBuf) -> bool
 pub extern "C" fn vk_send_buf_is_stopped(buf: VkSendBuf) -> bool
     ensures { result ≡ known (view_of (send_of buf)).error }
 {
-    send_of(buf).is_stopped()
+    SendBuf::from(buf).is_stopped()
 }
 
 #[unsafe(no_mangle)]
 pub extern "C" fn vk_send_buf_is_shutdown(buf: VkSendBuf) -> bool
     ensures { result ≡ (view_of (send_of buf)).shut }
 {
-    send_of(buf).is_shutdown()
+    SendBuf::from(buf).is_shutdown()
 }
 
 // Are there no chunks?
@@ -226,7 +229,7 @@ pub extern "C" fn vk_send_buf_is_empty(buf: VkSendBuf) -> bool
     requires { Good (send_of buf) }
     ensures { result ≡ eqb (length (view_of (send_of buf)).chunks) 0 }
 {
-    send_of(buf).is_empty()
+    SendBuf::from(buf).is_empty()
 }
 
 // Contiguous ack: the end of the acked range that starts at 0, else 0.
@@ -235,7 +238,7 @@ pub extern "C" fn vk_send_buf_ack_off(buf: VkSendBuf) -> u64
     requires { Good (send_of buf) }
     ensures { result ≡ ack_off (view_of (send_of buf)).acked }
 {
-    send_of(buf).ack_off()
+    SendBuf::from(buf).ack_off()
 }
 
 // What the limit leaves. Stopped.
@@ -244,7 +247,7 @@ pub extern "C" fn vk_send_buf_cap(buf: VkSendBuf) -> VkAnswer
     requires { Good (send_of buf) }
     ensures { result ≡ padded (told_count (cap (view_of (send_of buf)))) }
 {
-    super::vk_count(send_of(buf).cap())
+    SendBuf::from(buf).cap().into()
 }
 
 // How many chunks there are.
@@ -253,7 +256,7 @@ pub extern "C" fn vk_send_buf_bufs_count(buf: VkSendBuf) -> usize
     requires { Good (send_of buf) }
     ensures { result ≡ length (view_of (send_of buf)).chunks }
 {
-    send_of(buf).bufs_count()
+    SendBuf::from(buf).bufs_count()
 }
 
 // How many bytes are still to be sent, for the first time or again.
@@ -261,99 +264,65 @@ pub extern "C" fn vk_send_buf_bufs_count(buf: VkSendBuf) -> usize
 pub extern "C" fn vk_send_buf_buffered_bytes(buf: VkSendBuf) -> u64
     ensures { result ≡ (view_of (send_of buf)).buffered }
 {
-    send_of(buf).buffered_bytes()
+    SendBuf::from(buf).buffered_bytes()
 }
 
-fn send_of(buf: VkSendBuf) -> SendBuf
-    ensures { result ≡ send_of buf }
-{
-    let data = buf.data;
-    let blocked = buf.blocked_at;
-    let fin = buf.fin_off;
-    let acked = buf.acked;
-    let error = buf.error;
-    SendBuf {
-        data,
-        count: buf.count,
-        pos: buf.pos,
-        off: buf.off,
-        emit_off: buf.emit_off,
-        buffered_bytes: buf.buffered_bytes,
-        max_data: buf.max_data,
-        blocked_at: super::number_of(blocked),
-        fin_off: super::number_of(fin),
-        shutdown: buf.shutdown,
-        acked,
-        error: super::number_of(error),
-        arena_len: buf.arena_len,
+impl From<VkSendBuf> for SendBuf {
+    ghost from_gives = { λ b r. r ≡ send_of b };
+
+    #[tactic(auto, unfolding(crate::specs::State::send_of))]
+    fn from(vk: VkSendBuf) -> SendBuf {
+        let data = vk.data;
+        SendBuf {
+            data,
+            count: vk.count,
+            pos: vk.pos,
+            off: vk.off,
+            emit_off: vk.emit_off,
+            buffered_bytes: vk.buffered_bytes,
+            max_data: vk.max_data,
+            blocked_at: vk.blocked_at.into(),
+            fin_off: vk.fin_off.into(),
+            shutdown: vk.shutdown,
+            acked: vk.acked,
+            error: vk.error.into(),
+            arena_len: vk.arena_len,
+        }
     }
 }
 
-fn vk_send(buf: SendBuf) -> VkSendBuf
-    ensures { result ≡ vk_send buf }
-{
-    let data = buf.data;
-    let blocked = buf.blocked_at;
-    let fin = buf.fin_off;
-    let acked = buf.acked;
-    let error = buf.error;
-    VkSendBuf {
-        data,
-        count: buf.count,
-        pos: buf.pos,
-        off: buf.off,
-        emit_off: buf.emit_off,
-        buffered_bytes: buf.buffered_bytes,
-        max_data: buf.max_data,
-        blocked_at: super::vk_number(blocked),
-        fin_off: super::vk_number(fin),
-        shutdown: buf.shutdown,
-        acked,
-        error: super::vk_number(error),
-        arena_len: buf.arena_len,
+impl From<SendBuf> for VkSendBuf {
+    ghost from_gives = { λ b r. r ≡ vk_send b };
+
+    #[tactic(auto, unfolding(crate::specs::State::vk_send))]
+    fn from(buf: SendBuf) -> VkSendBuf {
+        let data = buf.data;
+        VkSendBuf {
+            data,
+            count: buf.count,
+            pos: buf.pos,
+            off: buf.off,
+            emit_off: buf.emit_off,
+            buffered_bytes: buf.buffered_bytes,
+            max_data: buf.max_data,
+            blocked_at: buf.blocked_at.into(),
+            fin_off: buf.fin_off.into(),
+            shutdown: buf.shutdown,
+            acked: buf.acked,
+            error: buf.error.into(),
+            arena_len: buf.arena_len,
+        }
     }
 }
 
-fn send_out(out: Outcome) -> VkSendBufOut
-    ensures { result ≡ send_out out }
-{
-    let answer = out.answer;
-    let buf = out.buf;
-    VkSendBufOut {
-        buf: vk_send(buf),
-        answer: super::vk_answer(answer),
-    }
-}
+impl<T: Values> From<Outcome<T, SendBuf>> for VkSendBufOut {
+    ghost from_gives = { λ o r. r ≡ send_by T.values o };
 
-fn send_count(out: CountOutcome) -> VkSendBufOut
-    ensures { result ≡ send_count out }
-{
-    let answer = out.answer;
-    let buf = out.buf;
-    VkSendBufOut {
-        buf: vk_send(buf),
-        answer: super::vk_count(answer),
-    }
-}
-
-fn send_emit(out: EmitOutcome) -> VkSendBufOut
-    ensures { result ≡ send_emit out }
-{
-    let answer = out.answer;
-    let buf = out.buf;
-    VkSendBufOut {
-        buf: vk_send(buf),
-        answer: super::vk_emit(answer),
-    }
-}
-
-fn send_sizes(out: SizesOutcome) -> VkSendBufOut
-    ensures { result ≡ send_sizes out }
-{
-    let answer = out.answer;
-    let buf = out.buf;
-    VkSendBufOut {
-        buf: vk_send(buf),
-        answer: super::vk_sizes(answer),
+    #[tactic(auto, unfolding(crate::specs::Rules::send_by))]
+    fn from(out: Outcome<T, SendBuf>) -> VkSendBufOut {
+        VkSendBufOut {
+            buf: out.state.into(),
+            answer: out.answer.into(),
+        }
     }
 }

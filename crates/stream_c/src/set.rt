@@ -6,7 +6,8 @@ ghost use Rattle.stream_c.specs.State.{vk_number};
 ghost use Rattle.stream_c.specs.Rules.{set_out, range_out};
 
 use super::{VkAnswer, VkNumber};
-use ranges::{OptionRange, Outcome, Range, RangeSet};
+use ranges::{Range, RangeSet};
+use refusal::Outcome;
 
 // The set after a call, and what the call answered.
 #[repr(C)]
@@ -29,7 +30,7 @@ pub struct VkRangeOut {
 pub extern "C" fn vk_range_set_new(capacity: usize) -> VkRangeSetOut
     ensures { result ≡ set_out (created capacity) }
 {
-    set_out(RangeSet::new(capacity))
+    RangeSet::new(capacity).into()
 }
 
 // How many ranges there are.
@@ -55,7 +56,7 @@ pub extern "C" fn vk_range_set_get(set: RangeSet, i: usize) -> VkRangeOut
     requires { Good set }
     ensures { result ≡ range_out (range_at i (ranges set)) }
 {
-    range_out(set.get(i))
+    set.get(i).into()
 }
 
 // The number before the end of the highest range.
@@ -64,7 +65,7 @@ pub extern "C" fn vk_range_set_last(set: RangeSet) -> VkNumber
     requires { Good set }
     ensures { result ≡ vk_number (last_of (ranges set)) }
 {
-    super::vk_number(set.last())
+    set.last().into()
 }
 
 // Is the set the single range start..end?
@@ -82,7 +83,7 @@ pub extern "C" fn vk_range_set_insert(set: RangeSet, start: u64, end: u64) -> Vk
     requires { Good set }
     ensures { result ≡ set_out (inserted set (upto start end)) }
 {
-    set_out(set.insert(Range { start, end }))
+    set.insert(Range { start, end }).into()
 }
 
 // The same, but a refusal where a range would be lost. Offset, TableFull.
@@ -91,7 +92,7 @@ pub extern "C" fn vk_range_set_try_insert(set: RangeSet, start: u64, end: u64) -
     requires { Good set }
     ensures { result ≡ set_out (tried set (upto start end)) }
 {
-    set_out(set.try_insert(Range { start, end }))
+    set.try_insert(Range { start, end }).into()
 }
 
 // Joins the number `item` to the set. Offset.
@@ -100,7 +101,7 @@ pub extern "C" fn vk_range_set_push_item(set: RangeSet, item: u64) -> VkRangeSet
     requires { Good set }
     ensures { result ≡ set_out (pushed set item) }
 {
-    set_out(set.push_item(item))
+    set.push_item(item).into()
 }
 
 // Removes every number at or below `largest`, and the empty ranges there.
@@ -112,25 +113,26 @@ pub extern "C" fn vk_range_set_remove_until(set: RangeSet, largest: u64) -> Rang
     set.remove_until(largest)
 }
 
-fn set_out(out: Outcome) -> VkRangeSetOut
-    ensures { result ≡ set_out out }
-{
-    let answer = out.answer;
-    let set = out.set;
-    VkRangeSetOut {
-        set,
-        answer: super::vk_answer(answer),
+impl From<Outcome<(), RangeSet>> for VkRangeSetOut {
+    ghost from_gives = { λ o r. r ≡ set_out o };
+
+    #[tactic(auto, unfolding(crate::specs::Rules::set_out))]
+    fn from(out: Outcome<(), RangeSet>) -> VkRangeSetOut {
+        VkRangeSetOut {
+            set: out.state,
+            answer: out.answer.into(),
+        }
     }
 }
 
-fn range_out(found: OptionRange) -> VkRangeOut
-    ensures { result ≡ range_out found }
-{
-    match found {
-        OptionRange::None => VkRangeOut {
-            range: Range { start: 0, end: 0 },
-            known: false,
-        },
-        OptionRange::Some(range) => VkRangeOut { range, known: true },
+impl From<Option<Range>> for VkRangeOut {
+    ghost from_gives = { λ f r. r ≡ range_out f };
+
+    #[tactic(auto, unfolding(crate::specs::Rules::range_out))]
+    fn from(found: Option<Range>) -> VkRangeOut {
+        VkRangeOut {
+            range: found.unwrap_or(Range { start: 0, end: 0 }),
+            known: found.is_some(),
+        }
     }
 }

@@ -6,7 +6,8 @@ ghost use Rattle.stream_c.specs.State.{flow_of, vk_flow};
 ghost use Rattle.stream_c.specs.Rules.{flow_out};
 
 use super::{VkAnswer, VkFlowControl};
-use flowcontrol::{FlowControl, Outcome};
+use flowcontrol::FlowControl;
+use refusal::Outcome;
 
 // The window after a call, and what the call answered.
 #[repr(C)]
@@ -25,21 +26,21 @@ pub extern "C" fn vk_flow_control_new(
 ) -> VkFlowControlOut
     ensures { result ≡ flow_out (created max_data window max_window) }
 {
-    flow_out(FlowControl::new(max_data, window, max_window))
+    FlowControl::new(max_data, window, max_window).into()
 }
 
 #[unsafe(no_mangle)]
 pub extern "C" fn vk_flow_control_window(flow: VkFlowControl) -> u64
     ensures { result ≡ (flow_of flow).window }
 {
-    super::flow_of(flow).window()
+    FlowControl::from(flow).window()
 }
 
 #[unsafe(no_mangle)]
 pub extern "C" fn vk_flow_control_max_data(flow: VkFlowControl) -> u64
     ensures { result ≡ (flow_of flow).max_data }
 {
-    super::flow_of(flow).max_data()
+    FlowControl::from(flow).max_data()
 }
 
 // Counts `consumed` bytes more. Offset.
@@ -51,7 +52,7 @@ pub extern "C" fn vk_flow_control_add_consumed(
     requires { Good (flow_of flow) }
     ensures { result ≡ flow_out (consumed_more (flow_of flow) consumed) }
 {
-    flow_out(super::flow_of(flow).add_consumed(consumed))
+    FlowControl::from(flow).add_consumed(consumed).into()
 }
 
 // Is less than half a window left?
@@ -59,7 +60,7 @@ pub extern "C" fn vk_flow_control_add_consumed(
 pub extern "C" fn vk_flow_control_should_update_max_data(flow: VkFlowControl) -> bool
     ensures { result ≡ due (flow_of flow) }
 {
-    super::flow_of(flow).should_update_max_data()
+    FlowControl::from(flow).should_update_max_data()
 }
 
 // The limit that a commit would set.
@@ -68,7 +69,7 @@ pub extern "C" fn vk_flow_control_max_data_next(flow: VkFlowControl) -> u64
     requires { Good (flow_of flow) }
     ensures { result ≡ next (flow_of flow) }
 {
-    super::flow_of(flow).max_data_next()
+    FlowControl::from(flow).max_data_next()
 }
 
 // Commits the next limit.
@@ -77,7 +78,7 @@ pub extern "C" fn vk_flow_control_update_max_data(flow: VkFlowControl, now: u64)
     requires { Good (flow_of flow) }
     ensures { result ≡ vk_flow (committed (flow_of flow) now) }
 {
-    super::vk_flow(super::flow_of(flow).update_max_data(now))
+    FlowControl::from(flow).update_max_data(now).into()
 }
 
 // Doubles the window, up to its maximum, where the last commit is less than two round trips ago.
@@ -90,7 +91,7 @@ pub extern "C" fn vk_flow_control_autotune_window(
     requires { Good (flow_of flow) }
     ensures { result ≡ vk_flow (autotuned (flow_of flow) now rtt) }
 {
-    super::vk_flow(super::flow_of(flow).autotune_window(now, rtt))
+    FlowControl::from(flow).autotune_window(now, rtt).into()
 }
 
 // The window at least `min_window`, up to its maximum. Offset.
@@ -102,16 +103,19 @@ pub extern "C" fn vk_flow_control_ensure_window_lower_bound(
     requires { Good (flow_of flow) }
     ensures { result ≡ flow_out (at_least (flow_of flow) min_window) }
 {
-    flow_out(super::flow_of(flow).ensure_window_lower_bound(min_window))
+    FlowControl::from(flow)
+        .ensure_window_lower_bound(min_window)
+        .into()
 }
 
-fn flow_out(out: Outcome) -> VkFlowControlOut
-    ensures { result ≡ flow_out out }
-{
-    let answer = out.answer;
-    let flow = out.flow;
-    VkFlowControlOut {
-        flow: super::vk_flow(flow),
-        answer: super::vk_answer(answer),
+impl From<Outcome<(), FlowControl>> for VkFlowControlOut {
+    ghost from_gives = { λ o r. r ≡ flow_out o };
+
+    #[tactic(auto, unfolding(crate::specs::Rules::flow_out))]
+    fn from(out: Outcome<(), FlowControl>) -> VkFlowControlOut {
+        VkFlowControlOut {
+            flow: out.state.into(),
+            answer: out.answer.into(),
+        }
     }
 }

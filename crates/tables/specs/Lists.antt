@@ -7,11 +7,6 @@ module _ {A : Type 0} where
   abbrev pub table_of : A → List A → List A
   table_of z l = l ++ replicate (64 - length l) z
 
-  -- the entries that pass a test
-  abbrev pub filter_by : (A → Bool) → List A → List A
-  filter_by p [] = []
-  filter_by p (x ∷ xs) = cond (p x) (x ∷ filter_by p xs) (filter_by p xs)
-
   -- the entries at the front of a list that pass a test, up to the first that does not
   abbrev pub take_while : (A → Bool) → List A → List A
   take_while p [] = []

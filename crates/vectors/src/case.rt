@@ -1,165 +1,92 @@
 // The call that stands before its verdict: how its answer compares with the stored lines so far.
-use super::tally::Tally;
-use super::words::Number;
-use super::{tally, words};
-use std::io::Stdout;
+use super::tally::{Kind, Tally};
+use super::words;
+use std::alloc::{AllocError, Global};
+use std::io;
+use std::io::Write;
 
-// No call; a line that was not understood, whose stored answers are passed over; a call with no stored line yet; one that agrees with
-// quiche's line; one that agrees with the rules' line, in a row of docs/DIFFERENCES.md; one that differs.
-const NOTHING: u64 = 0;
+#[derive(Drop)]
+pub enum Case {
+    // No call.
+    Nothing,
+    // A line that was not understood, or did not fit: stored answers are passed over.
+    Passed,
+    Made(Made),
+}
 
-const PASSED: u64 = 1;
+// A call on an object: the number of its line, its text, and our `ANSWER | STATE`.
+#[derive(Drop)]
+pub struct Made {
+    pub line: u64,
+    pub kind: Kind,
+    pub call: Vec<u8>,
+    pub ours: String,
+    pub verdict: Verdict,
+}
 
-const MADE: u64 = 2;
+// What the last stored line says.
+#[derive(Drop)]
+pub enum Verdict {
+    // There was none yet.
+    Waits,
+    // It is ours.
+    Agrees(Source),
+    // It is another.
+    Differs(Vec<u8>),
+}
 
-const AGREES: u64 = 3;
-
-const RULED: u64 = 4;
-
-const DIFFERS: u64 = 5;
-
+// Whose a stored line is: quiche's, or the rules', in that row of docs/DIFFERENCES.md.
 #[derive(Clone, Copy)]
-pub struct Case {
-    state: u64,
-    object: usize,
-    row: usize,
-    // The number of the call's line.
-    line: u64,
-    // The lengths of the call, of the stored line that it was last held against, and of our own.
-    call: usize,
-    stored: usize,
-    ours: usize,
+pub enum Source {
+    Quiche,
+    Rules(u64),
 }
 
-pub fn none() -> Case {
-    Case {
-        state: NOTHING,
-        object: 0,
-        row: 0,
-        line: 0,
-        call: 0,
-        stored: 0,
-        ours: 0,
-    }
-}
-
-// A call on an object, by the lengths of its text and of our line.
-pub fn made(line: u64, object: usize, call: usize, ours: usize) -> Case {
-    Case {
-        state: MADE,
-        object,
-        row: 0,
-        line,
-        call,
-        stored: 0,
-        ours,
-    }
-}
-
-impl Case {
-    pub fn passed(self) -> Case {
-        let mut c = self;
-        c.state = PASSED;
-        c
-    }
-
-    // Was there a call, understood or not, that a stored line can belong to?
-    pub fn waits(self) -> bool {
-        self.state != NOTHING
-    }
-
-    // Is a stored line to be passed over?
-    pub fn is_passed(self) -> bool {
-        self.state == PASSED
-    }
-
-    // A stored line: quiche's or the rules'.
-    pub fn held_against(self, line: &[u8], stored: &mut [u8], ours: &[u8]) -> Case {
-        if line.len() == 0 {
-            return self;
-        }
-        if line[0] == b'<' {
-            return self.quiche(line, stored, ours);
-        }
-        self.ruled(line, stored, ours)
-    }
-
-    // Quiche's line, `< ANSWER | STATE`.
-    fn quiche(self, line: &[u8], stored: &mut [u8], ours: &[u8]) -> Case {
-        if line.len() < 2 {
-            return self.differs(line, stored);
-        }
-        self.held(AGREES, &line[2..], stored, ours)
-    }
-
-    // The rules' line, `! D-nn ANSWER | STATE`.
-    fn ruled(self, line: &[u8], stored: &mut [u8], ours: &[u8]) -> Case {
-        if line.len() < 4 {
-            return self.differs(line, stored);
-        }
-        let end = words::word_end(line, 4);
-        let number = words::decimal(&line[4..end]);
-        let Number::Is(row) = number else {
-            return self.differs(line, stored);
-        };
-        if line.len() <= end {
-            return self.differs(line, stored);
-        }
-        let behind = end + 1;
-        let mut c = self.held(RULED, &line[behind..], stored, ours);
-        c.row = row as usize;
-        c
-    }
-
+impl Made {
     // Holds our line against a stored one.
-    fn held(self, state: u64, text: &[u8], stored: &mut [u8], ours: &[u8]) -> Case {
-        let n = refusal::least(self.ours as u64, ours.len() as u64) as usize;
-        if words::same(text, &ours[0..n]) {
-            let mut c = self;
-            c.state = state;
-            return c;
-        }
-        self.differs(text, stored)
+    pub fn hold_against(&mut self, alloc: Global, line: &[u8]) -> Result<(), AllocError> {
+        let ours = self.ours.as_bytes();
+        self.verdict = match stored(line) {
+            Some((source, text)) if text == ours => Verdict::Agrees(source),
+            Some((_, text)) => Verdict::Differs(Vec::from_slice(alloc, text)?),
+            None => Verdict::Differs(Vec::from_slice(alloc, line)?),
+        };
+        Ok(())
     }
 
-    fn differs(self, text: &[u8], stored: &mut [u8]) -> Case {
-        let mut c = self;
-        c.state = DIFFERS;
-        c.stored = super::text::word(stored, 0, text);
-        c
+    // The verdict, counted; the first few that differ are told. A write that fails is passed over.
+    pub fn settle(&self, rt: &impl Print, tally: &mut Tally) {
+        tally.called(self.kind);
+        let stored = match &self.verdict {
+            Verdict::Agrees(Source::Quiche) => return tally.agrees(self.kind),
+            Verdict::Agrees(Source::Rules(row)) => return tally.in_row(self.kind, *row),
+            Verdict::Waits => b"".as_slice(),
+            Verdict::Differs(text) => text.as_slice(),
+        };
+        if tally.differ < 5 {
+            let _ = self.tell(&mut io::writer(rt), stored);
+        }
+        tally.differs();
     }
 
-    // The verdict, counted; the first few that differ are told.
-    pub fn settled(self, t: Tally, call: &[u8], stored: &[u8], ours: &[u8]) -> Tally {
-        if self.state < MADE {
-            return t;
-        }
-        let called = t.called(self.object);
-        if self.state == AGREES {
-            return called.agreed(self.object);
-        }
-        if self.state == RULED {
-            return called.in_row(self.object, self.row);
-        }
-        if called.differ < 5 {
-            self.tell(called.out, call, stored, ours);
-        }
-        called.differs()
-    }
-
-    fn tell(self, out: Stdout, call: &[u8], stored: &[u8], ours: &[u8]) {
-        tally::say(out, b"line ");
-        tally::counted(out, self.line, b": ");
-        told(out, call, self.call);
-        tally::say(out, b"  stored: ");
-        told(out, stored, self.stored);
-        tally::say(out, b"  ours:   ");
-        told(out, ours, self.ours);
+    fn tell(&self, out: &mut impl Write, stored: &[u8]) -> io::Result<()> {
+        write!(out, "line {}: ", self.line)?;
+        out.write_all(self.call.as_slice())?;
+        write!(out, "\n  stored: ")?;
+        out.write_all(stored)?;
+        writeln!(out, "\n  ours:   {}", self.ours)
     }
 }
 
-fn told(out: Stdout, text: &[u8], n: usize) {
-    let k = refusal::least(n as u64, text.len() as u64) as usize;
-    tally::say(out, &text[0..k]);
-    tally::say(out, b"\n");
+// A stored line is quiche's, `< ANSWER | STATE`, or the rules', `! D-nn ANSWER | STATE`: whose it is, and its text.
+fn stored(line: &[u8]) -> Option<(Source, &[u8])> {
+    match line {
+        [b'<', _, text @ ..] => Some((Source::Quiche, text)),
+        [b'!', _, _, _, text @ ..] => {
+            let end = text.iter().position(|b| *b == b' ')?;
+            let row = str::from_utf8(&text[..end]).ok()?;
+            Some((Source::Rules(words::number(row).ok()?), &text[end + 1..]))
+        }
+        _ => None,
+    }
 }

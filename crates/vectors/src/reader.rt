@@ -1,89 +1,53 @@
-// Standard input, a line at a time, by way of a small window.
-use super::text;
-use std::io::{Read, Stdin};
+// Standard input, a line at a time.
+use std::alloc::{AllocError, Global};
+use std::io::{BufRead, BufReader, Read, Stdin};
 
-#[derive(Clone, Copy)]
+// A line has fewer bytes than this, its end not counted.
+const LIMIT: usize = 8192;
+
+#[derive(Drop)]
 pub struct Reader {
-    input: Stdin,
-    // The window's bytes from `at` up to `have` are still to be taken.
-    at: usize,
-    have: usize,
-    // The line: its length as far as it was taken, and whether its end was.
-    pub len: usize,
-    pub whole: bool,
-    // The input's end, and that a read failed.
-    pub ended: bool,
-    pub broken: bool,
-}
-
-pub fn new(input: Stdin) -> Reader {
-    Reader {
-        input,
-        at: 0,
-        have: 0,
-        len: 0,
-        whole: false,
-        ended: false,
-        broken: false,
-    }
+    input: BufReader<Stdin>,
+    line: Vec<u8>,
+    // The input has ended, or a read of it failed.
+    done: bool,
+    broken: bool,
 }
 
 impl Reader {
-    // The next line, put into `line` without its end. One that fills `line` was cut. A proved loop has to end, so it counts down, from a
-    // number that no line uses up.
-    pub fn next(self, window: &mut [u8; 4096], line: &mut [u8; 8192]) -> Reader {
-        let mut r = self;
-        r.len = 0;
-        r.whole = false;
-        let mut left = u64::MAX;
-        while left > 0 && r.wants() {
-            r = r.take(window, line);
-            left -= 1;
-        }
-        r
+    pub fn new(alloc: Global, input: Stdin) -> Result<Reader, AllocError> {
+        Ok(Reader {
+            input: BufReader::with_capacity(alloc, LIMIT, input).map_err(|_| AllocError)?,
+            line: Vec::with_capacity(alloc, LIMIT)?,
+            done: false,
+            broken: false,
+        })
     }
 
-    fn wants(self) -> bool {
-        if self.whole {
-            return false;
-        }
-        !self.ended
+    pub fn is_done(&self) -> bool {
+        self.done
     }
 
-    // One byte.
-    fn take(self, window: &mut [u8; 4096], line: &mut [u8; 8192]) -> Reader {
-        let mut r = self.filled(window);
-        let at = r.at;
-        if r.ended {
-            return r;
-        }
-        if 4095 < at {
-            r.ended = true;
-            return r;
-        }
-        let b = window[at];
-        r.at = at + 1;
-        if b == b'\n' {
-            r.whole = true;
-            return r;
-        }
-        r.len = text::byte(line, r.len, b);
-        r
+    pub fn is_broken(&self) -> bool {
+        self.broken
     }
 
-    // Reads anew once all of the window was taken.
-    fn filled(self, window: &mut [u8]) -> Reader {
-        if self.at < self.have {
-            return self;
+    // The next line without its end, or none where it is too long. Behind the last one comes an empty line.
+    pub fn next(&mut self) -> Option<&[u8]> {
+        self.line.clear();
+        let mut input = self.input.by_ref().take(LIMIT as u64);
+        let read = input.read_until(b'\n', &mut self.line);
+        if self.line.last() == Some(&b'\n') {
+            self.line.pop();
+            return Some(self.line.as_slice());
         }
-        let mut r = self;
-        let mut input = self.input;
-        let got = input.read(window);
-        r.broken = got.is_err();
-        let n = got.unwrap_or(0);
-        r.at = 0;
-        r.have = n;
-        r.ended = n == 0;
-        r
+        if self.line.len() < LIMIT {
+            self.broken = read.is_err();
+            self.done = true;
+            return Some(self.line.as_slice());
+        }
+        self.broken = self.input.skip_until(b'\n').is_err();
+        self.done = self.broken;
+        None
     }
 }

@@ -1,408 +1,285 @@
-// The calls of a send buffer (`s.`): each is made on a good buffer, and hands a good one on beside its answer's text.
+// A send buffer (`s.`): its calls, and how they are made.
 ghost use Rattle.send_buf.specs.State.{Good};
+ghost use Rattle.vectors.specs.Unique.{good_props};
 
-use super::words::Words;
-use super::{names, text};
-use refusal::{Answer, CountAnswer, OptionU64};
+use super::arenas::{held, zeros};
+use super::object::Object;
+use super::text::{Bytes, List, Said, Text};
+use super::words::{Failure, bytes, lent, mark, number, optional};
+use refusal::Refusal;
 use send_buf::SendBuf;
+use std::alloc::{AllocError, Global};
 
-// The buffer after a call, and the length of the text put together for it (0: not understood). `made` says of a call whether it
-// created the buffer, and of a turn whether there is one.
+// The buffer alone. It is good at all times, as its calls ask.
 #[derive(Drop)]
-pub struct Step {
-    pub buf: SendBuf,
-    pub at: usize,
-    pub made: bool,
+struct Sending {
+    buf: SendBuf,
+    ghost good: { Good buf } by { Prim.hlevel good_props },
 }
 
-// A call by its number, with `ANSWER | STATE` put into `out`. `has` says whether the object is there, and a part of `own` is its arena.
-pub fn turn(
-    old: SendBuf,
-    has: bool,
-    what: u64,
-    w: Words,
-    input: &[u8],
-    own: &mut [u8],
-    out: &mut [u8],
-) -> Step
-    requires { Good old }
-    ensures { Good result.buf }
-{
-    let step = lent(old, what, w, input, own, out);
-    let buf = step.buf;
-    if text::no_state(has, step.made) {
-        return Step {
-            buf: old,
-            at: text::without_state(out, step.at, what == names::NEW),
-            made: false,
-        };
-    }
-    let at = with_state(out, step.at, buf, own);
-    Step {
-        buf,
-        at,
-        made: true,
-    }
+// The buffer, and its arena.
+#[derive(Drop)]
+pub struct Sender {
+    sending: Sending,
+    arena: Vec<u8>,
 }
 
-// The call is lent its own arena, or other zeros where the line says so. At creation the arena is as long as the line asks. (The arrays have
-// 65,537 bytes. All above the largest arena is refused alike, so a creation that asks for more is lent 65,537.)
-fn lent(old: SendBuf, what: u64, w: Words, input: &[u8], own: &mut [u8], out: &mut [u8]) -> Step
-    requires { Good old }
-    ensures { Good result.buf }
-{
-    if w.other {
-        let mut other = [0u8; 65537];
-        let n = refusal::least(w.arena, 65537) as usize;
-        return call(old, what, w, &mut other[0..n], input, out);
-    }
-    let asked = text::either(what == names::NEW, w.second, old.arena_len as u64);
-    let n = refusal::least(asked, own.len() as u64) as usize;
-    call(old, what, w, &mut own[0..n], input, out)
+#[derive(Drop)]
+pub enum SendCall {
+    Write {
+        data: Vec<u8>,
+        fin: bool,
+        lent: Option<u64>,
+    },
+    Emit {
+        room: u64,
+        lent: Option<u64>,
+    },
+    Ack {
+        off: u64,
+        len: u64,
+    },
+    AckAndDrop {
+        off: u64,
+        len: u64,
+    },
+    Retransmit {
+        off: u64,
+        len: u64,
+    },
+    UpdateMaxData(u64),
+    UpdateBlockedAt(Option<u64>),
+    Reset,
+    Stop {
+        code: u64,
+    },
+    Shutdown,
+    Get,
 }
 
-fn with_state(out: &mut [u8], at: usize, buf: SendBuf, own: &[u8]) -> usize {
-    let n = refusal::least(buf.arena_len as u64, own.len() as u64) as usize;
-    let a = text::word(out, at, b" | ");
-    state(out, a, buf, &own[0..n])
-}
+impl Object for Sender {
+    type Call = SendCall;
 
-// `arena` is what the call is lent, and `input` the bytes of its line.
-fn call(buf: SendBuf, what: u64, w: Words, arena: &mut [u8], input: &[u8], out: &mut [u8]) -> Step
-    requires { Good buf }
-    ensures { Good result.buf }
-{
-    if what == names::NEW {
-        return new(buf, w.first, arena, out);
-    }
-    if what == names::WRITE {
-        return counted(written(buf, arena, input, w.first == 1), out);
-    }
-    if what == names::EMIT {
-        return emit(buf, arena, w.first, out);
-    }
-    other_call(buf, what, w, out)
-}
-
-// A call that takes no arena.
-fn other_call(buf: SendBuf, what: u64, w: Words, out: &mut [u8]) -> Step
-    requires { Good buf }
-    ensures { Good result.buf }
-{
-    if what == names::ACK {
-        return told(acked(buf, w.first, w.second), out);
-    }
-    if what == names::ACK_AND_DROP {
-        return counted(dropped(buf, w.first, w.second), out);
-    }
-    if what == names::RETRANSMIT {
-        return counted(lost(buf, w.first, w.second), out);
-    }
-    if what == names::UPDATE_MAX_DATA {
-        return told(raised(buf, w.first), out);
-    }
-    if what == names::BLOCKED {
-        return changed(blocked(buf, OptionU64::Some(w.first)), out);
-    }
-    if what == names::NOT_BLOCKED {
-        return changed(blocked(buf, OptionU64::None), out);
-    }
-    closing_call(buf, what, w, out)
-}
-
-fn closing_call(buf: SendBuf, what: u64, w: Words, out: &mut [u8]) -> Step
-    requires { Good buf }
-    ensures { Good result.buf }
-{
-    if what == names::RESET {
-        return sized(was_reset(buf), out);
-    }
-    if what == names::STOP {
-        return sized(stopped(buf, w.first), out);
-    }
-    if what == names::SHUTDOWN {
-        return sized(shut(buf), out);
-    }
-    if what == names::GET {
-        return Step {
-            buf,
-            at: get(buf, out),
-            made: false,
-        };
-    }
-    Step {
-        buf,
-        at: 0,
-        made: false,
-    }
-}
-
-// All getters.
-fn get(buf: SendBuf, out: &mut [u8]) -> usize
-    requires { Good buf }
-{
-    let first = [
-        text::some(buf.off_back()),
-        text::some(buf.off_front()),
-        text::some(buf.max_off()),
-        text::bit(buf.is_fin()),
-        text::bit(buf.is_complete()),
-        text::bit(buf.is_stopped()),
-        text::bit(buf.is_shutdown()),
-        text::bit(buf.is_empty()),
-        text::some(buf.ack_off()),
-        OptionU64::None,
-    ];
-    let a = text::form(
-        out,
-        0,
-        b"ok off_back=% off_front=% max_off=% is_fin=% is_complete=% is_stopped=% is_shutdown=% is_empty=% ack_off=%",
-        first,
-    );
-    let b = cap(buf, out, a);
-    get_rest(buf, out, b)
-}
-
-fn get_rest(buf: SendBuf, out: &mut [u8], at: usize) -> usize
-    requires { Good buf }
-{
-    let a = text::named(out, at, b" bufs_count=", buf.bufs_count() as u64);
-    let b = text::named(out, a, b" buffered_bytes=", buf.buffered_bytes());
-    text::optional(out, b, b" blocked_at=", buf.blocked_at())
-}
-
-// The room that the limit leaves; a refusal in parentheses.
-fn cap(buf: SendBuf, out: &mut [u8], at: usize) -> usize
-    requires { Good buf }
-{
-    let said = buf.cap();
-    match said {
-        CountAnswer::Count(n) => text::named(out, at, b" cap=", n),
-        CountAnswer::Refused(why) => {
-            let a = text::word(out, at, b" cap=(");
-            let b = text::refused(out, a, why);
-            text::byte(out, b, b')')
+    // A new buffer finds the arena as zeros.
+    fn create(alloc: Global, words: &[&str]) -> Result<Result<Sender, Refusal>, Failure> {
+        match words {
+            [limit, arena] => {
+                let limit = number(limit)?;
+                let arena = zeros(alloc, number(arena)?)?;
+                let made = Sending::new(limit, arena.as_slice());
+                Ok(made.map(|sending| Sender { sending, arena }))
+            }
+            _ => Err(Failure::NotUnderstood),
         }
     }
+
+    fn read(alloc: Global, name: &str, words: &[&str]) -> Result<SendCall, Failure> {
+        Ok(match (name, words) {
+            ("write", [data, fin, rest @ ..]) => SendCall::Write {
+                data: bytes(alloc, data)?,
+                fin: mark(fin)?,
+                lent: lent(rest)?,
+            },
+            ("emit", [room, rest @ ..]) => SendCall::Emit {
+                room: number(room)?,
+                lent: lent(rest)?,
+            },
+            ("ack", [off, len]) => SendCall::Ack {
+                off: number(off)?,
+                len: number(len)?,
+            },
+            ("ack_and_drop", [off, len]) => SendCall::AckAndDrop {
+                off: number(off)?,
+                len: number(len)?,
+            },
+            ("retransmit", [off, len]) => SendCall::Retransmit {
+                off: number(off)?,
+                len: number(len)?,
+            },
+            ("update_max_data", [limit]) => SendCall::UpdateMaxData(number(limit)?),
+            ("update_blocked_at", [off]) => SendCall::UpdateBlockedAt(optional(off)?),
+            ("reset", []) => SendCall::Reset,
+            ("stop", [code]) => SendCall::Stop {
+                code: number(code)?,
+            },
+            ("shutdown", []) => SendCall::Shutdown,
+            ("get", []) => SendCall::Get,
+            _ => return Err(Failure::NotUnderstood),
+        })
+    }
+
+    fn call(&mut self, alloc: Global, call: SendCall) -> Result<Said, AllocError> {
+        Ok(match call {
+            SendCall::Write { data, fin, lent } => self.write(alloc, data.as_slice(), fin, lent)?,
+            SendCall::Emit { room, lent } => self.emit(alloc, room, lent)?,
+            SendCall::Ack { off, len } => self.sending.ack(off, len),
+            SendCall::AckAndDrop { off, len } => self.sending.ack_and_drop(off, len),
+            SendCall::Retransmit { off, len } => self.sending.retransmit(off, len),
+            SendCall::UpdateMaxData(limit) => self.sending.update_max_data(limit),
+            SendCall::UpdateBlockedAt(off) => self.sending.update_blocked_at(off),
+            SendCall::Reset => self.sending.reset(),
+            SendCall::Stop { code } => self.sending.stop(code),
+            SendCall::Shutdown => self.sending.shutdown(),
+            SendCall::Get => Said::Getters(self.sending.getters(alloc)?),
+        })
+    }
+
+    fn state(&self, alloc: Global) -> Result<String, AllocError> {
+        self.sending.state(alloc, self.arena.as_slice())
+    }
 }
 
-// A send buffer as a state shows it. `arena` is its own.
-fn state(out: &mut [u8], at: usize, buf: SendBuf, arena: &[u8]) -> usize {
-    let table = buf.data;
-    let a = text::word(out, at, b"chunks=");
-    let b = text::chunks(out, a, table, buf.count);
-    let c = text::word(out, b, b" held=");
-    let d = text::held(out, c, table, buf.count, true, arena);
-    state_numbers(out, d, buf)
-}
-
-fn state_numbers(out: &mut [u8], at: usize, buf: SendBuf) -> usize {
-    let blocked = buf.blocked_at;
-    let fin = buf.fin_off;
-    let error = buf.error;
-    let acked = buf.acked;
-    let none = OptionU64::None;
-    let numbers = [
-        text::some(buf.pos as u64),
-        text::some(buf.off),
-        text::some(buf.emit_off),
-        text::some(buf.buffered_bytes),
-        text::some(buf.max_data),
-        blocked,
-        fin,
-        none,
-        none,
-        none,
-    ];
-    let a = text::form(
-        out,
-        at,
-        b" pos=% off=% emitted=% tosend=% limit=% blocked=% fin=% acked=",
-        numbers,
-    );
-    let b = super::set::state(out, a, acked);
-    let c = text::flag(out, b, b" shut=", buf.shutdown);
-    text::optional(out, c, b" err=", error)
-}
-
-// A new buffer finds the arena as zeros.
-fn new(old: SendBuf, max_data: u64, arena: &mut [u8], out: &mut [u8]) -> Step
-    requires { Good old }
-    ensures { Good result.buf }
-{
-    let done = created(max_data, arena);
-    let said = done.answer;
-    let buf = done.buf;
-    let at = text::plain(out, said);
-    let Answer::Done = said else {
-        return Step {
-            buf: old,
-            at,
-            made: false,
+impl Sender {
+    fn write(
+        &mut self,
+        alloc: Global,
+        data: &[u8],
+        fin: bool,
+        lent: Option<u64>,
+    ) -> Result<Said, AllocError> {
+        let Some(length) = lent else {
+            return Ok(self.sending.write(self.arena.as_mut_slice(), data, fin));
         };
-    };
-    super::words::clear(arena);
-    Step {
-        buf,
-        at,
-        made: true,
+        let mut other = zeros(alloc, length)?;
+        Ok(self.sending.write(other.as_mut_slice(), data, fin))
+    }
+
+    fn emit(&mut self, alloc: Global, room: u64, lent: Option<u64>) -> Result<Said, AllocError> {
+        let mut out = zeros(alloc, room)?;
+        let answer = match lent {
+            None => self.sending.emit(self.arena.as_slice(), out.as_mut_slice()),
+            Some(length) => self
+                .sending
+                .emit(zeros(alloc, length)?.as_slice(), out.as_mut_slice()),
+        };
+        Ok(Said::emitted(answer, out))
     }
 }
 
-// A room above the largest arena is as good as one byte above it.
-fn emit(old: SendBuf, arena: &[u8], asked: u64, out: &mut [u8]) -> Step
-    requires { Good old }
-    ensures { Good result.buf }
-{
-    let mut room = [0u8; 65537];
-    emit_into(old, arena, asked, &mut room, out)
-}
-
-fn emit_into(old: SendBuf, arena: &[u8], asked: u64, room: &mut [u8], out: &mut [u8]) -> Step
-    requires { Good old }
-    ensures { Good result.buf }
-{
-    let n = refusal::least(asked, room.len() as u64) as usize;
-    let done = emitted(old, arena, &mut room[0..n]);
-    let said = done.answer;
-    let buf = done.buf;
-    let at = text::emitted(out, said, room);
-    Step {
-        buf,
-        at,
-        made: false,
+impl Sending {
+    #[tactic(auto, using(send_buf::proofs::Kept::created_good))]
+    fn new(limit: u64, arena: &[u8]) -> Result<Sending, Refusal> {
+        let done = SendBuf::new(limit, arena);
+        done.answer?;
+        Ok(Sending { buf: done.state })
     }
-}
 
-fn told(done: send_buf::Outcome, out: &mut [u8]) -> Step
-    requires { Good done.buf }
-    ensures { Good result.buf }
-{
-    let said = done.answer;
-    let buf = done.buf;
-    let at = text::plain(out, said);
-    Step {
-        buf,
-        at,
-        made: false,
+    #[tactic(auto, using(send_buf::proofs::Kept::written_good))]
+    fn write(&mut self, arena: &mut [u8], data: &[u8], fin: bool) -> Said {
+        let done = self.buf.write(arena, data, fin);
+        self.buf = done.state;
+        done.answer.into()
     }
-}
 
-fn counted(done: send_buf::CountOutcome, out: &mut [u8]) -> Step
-    requires { Good done.buf }
-    ensures { Good result.buf }
-{
-    let said = done.answer;
-    let buf = done.buf;
-    let at = text::count(out, said);
-    Step {
-        buf,
-        at,
-        made: false,
+    #[tactic(auto, using(send_buf::proofs::Kept::emitted_good))]
+    fn emit(&mut self, arena: &[u8], out: &mut [u8]) -> Result<(u64, bool), Refusal> {
+        let done = self.buf.emit(arena, out);
+        self.buf = done.state;
+        done.answer
     }
-}
 
-fn sized(done: send_buf::SizesOutcome, out: &mut [u8]) -> Step
-    requires { Good done.buf }
-    ensures { Good result.buf }
-{
-    let said = done.answer;
-    let buf = done.buf;
-    let at = text::sizes(out, said);
-    Step {
-        buf,
-        at,
-        made: false,
+    #[tactic(auto, using(send_buf::proofs::Kept::acks_good))]
+    fn ack(&mut self, off: u64, len: u64) -> Said {
+        let done = self.buf.ack(off, len);
+        self.buf = done.state;
+        done.answer.into()
     }
-}
 
-// A call that always succeeds.
-fn changed(buf: SendBuf, out: &mut [u8]) -> Step
-    requires { Good buf }
-    ensures { Good result.buf }
-{
-    let at = text::ok(out);
-    Step {
-        buf,
-        at,
-        made: false,
+    #[tactic(auto, using(send_buf::proofs::Kept::ack_drops_good))]
+    fn ack_and_drop(&mut self, off: u64, len: u64) -> Said {
+        let done = self.buf.ack_and_drop(off, len);
+        self.buf = done.state;
+        done.answer.into()
     }
-}
 
-// ---- the calls themselves, with what their laws say: the buffer that each leaves is good
+    #[tactic(auto, using(send_buf::proofs::Kept::retransmits_good))]
+    fn retransmit(&mut self, off: u64, len: u64) -> Said {
+        let done = self.buf.retransmit(off, len);
+        self.buf = done.state;
+        done.answer.into()
+    }
 
-pub fn created(max_data: u64, arena: &[u8]) -> send_buf::Outcome
-    ensures { Good result.buf }
-{
-    SendBuf::new(max_data, arena)
-}
+    #[tactic(auto, using(send_buf::proofs::Kept::raised_limit_good))]
+    fn update_max_data(&mut self, limit: u64) -> Said {
+        let done = self.buf.update_max_data(limit);
+        self.buf = done.state;
+        done.answer.into()
+    }
 
-fn written(buf: SendBuf, arena: &mut [u8], input: &[u8], fin: bool) -> send_buf::CountOutcome
-    requires { Good buf }
-    ensures { Good result.buf }
-{
-    buf.write(arena, input, fin)
-}
+    #[tactic(auto, using(send_buf::proofs::Kept::blocked_at_good))]
+    fn update_blocked_at(&mut self, off: Option<u64>) -> Said {
+        self.buf = self.buf.update_blocked_at(off);
+        Said::Done
+    }
 
-fn emitted(buf: SendBuf, arena: &[u8], room: &mut [u8]) -> send_buf::EmitOutcome
-    requires { Good buf }
-    ensures { Good result.buf }
-{
-    buf.emit(arena, room)
-}
+    #[tactic(auto, using(send_buf::proofs::Kept::resets_good))]
+    fn reset(&mut self) -> Said {
+        let done = self.buf.reset();
+        self.buf = done.state;
+        done.answer.into()
+    }
 
-fn acked(buf: SendBuf, off: u64, len: u64) -> send_buf::Outcome
-    requires { Good buf }
-    ensures { Good result.buf }
-{
-    buf.ack(off, len)
-}
+    #[tactic(auto, using(send_buf::proofs::Kept::stops_good))]
+    fn stop(&mut self, code: u64) -> Said {
+        let done = self.buf.stop(code);
+        self.buf = done.state;
+        done.answer.into()
+    }
 
-fn dropped(buf: SendBuf, off: u64, len: u64) -> send_buf::CountOutcome
-    requires { Good buf }
-    ensures { Good result.buf }
-{
-    buf.ack_and_drop(off, len)
-}
+    #[tactic(auto, using(send_buf::proofs::Kept::shuts_good))]
+    fn shutdown(&mut self) -> Said {
+        let done = self.buf.shutdown();
+        self.buf = done.state;
+        done.answer.into()
+    }
 
-fn lost(buf: SendBuf, off: u64, len: u64) -> send_buf::CountOutcome
-    requires { Good buf }
-    ensures { Good result.buf }
-{
-    buf.retransmit(off, len)
-}
+    fn getters(&self, alloc: Global) -> Result<String, AllocError> {
+        let buf = &self.buf;
+        format!(in alloc;
+            "off_back={} off_front={} max_off={} is_fin={} is_complete={} is_stopped={} is_shutdown={} is_empty={} ack_off={} {} bufs_count={} \
+             buffered_bytes={} blocked_at={}",
+            buf.off_back(),
+            buf.off_front(),
+            buf.max_off(),
+            Text(buf.is_fin()),
+            Text(buf.is_complete()),
+            Text(buf.is_stopped()),
+            Text(buf.is_shutdown()),
+            Text(buf.is_empty()),
+            buf.ack_off(),
+            self.cap(alloc)?,
+            buf.bufs_count(),
+            buf.buffered_bytes(),
+            Text(buf.blocked_at())
+        )
+    }
 
-fn raised(buf: SendBuf, max_data: u64) -> send_buf::Outcome
-    requires { Good buf }
-    ensures { Good result.buf }
-{
-    buf.update_max_data(max_data)
-}
+    // The room that the limit leaves; a refusal in parentheses.
+    fn cap(&self, alloc: Global) -> Result<String, AllocError> {
+        match self.buf.cap() {
+            Ok(n) => format!(in alloc; "cap={n}"),
+            Err(why) => format!(in alloc; "cap=({})", Text(why)),
+        }
+    }
 
-fn blocked(buf: SendBuf, at: OptionU64) -> SendBuf
-    requires { Good buf }
-    ensures { Good result }
-{
-    buf.update_blocked_at(at)
-}
-
-fn was_reset(buf: SendBuf) -> send_buf::SizesOutcome
-    requires { Good buf }
-    ensures { Good result.buf }
-{
-    buf.reset()
-}
-
-fn stopped(buf: SendBuf, code: u64) -> send_buf::SizesOutcome
-    requires { Good buf }
-    ensures { Good result.buf }
-{
-    buf.stop(code)
-}
-
-fn shut(buf: SendBuf) -> send_buf::SizesOutcome
-    requires { Good buf }
-    ensures { Good result.buf }
-{
-    buf.shutdown()
+    fn state(&self, alloc: Global, arena: &[u8]) -> Result<String, AllocError> {
+        let buf = &self.buf;
+        let chunks = &buf.data[..buf.count.min(64)];
+        let held = held(alloc, arena, chunks, true)?;
+        format!(in alloc;
+            "chunks={} held={} pos={} off={} emitted={} tosend={} limit={} blocked={} fin={} acked={} shut={} err={}",
+            List(chunks),
+            Bytes(held.as_slice()),
+            buf.pos,
+            buf.off,
+            buf.emit_off,
+            buf.buffered_bytes,
+            buf.max_data,
+            Text(buf.blocked_at),
+            Text(buf.fin_off),
+            Text(buf.acked),
+            Text(buf.shutdown),
+            Text(buf.error)
+        )
+    }
 }

@@ -1,363 +1,195 @@
-// The call script's text, put together in a lent buffer: each function puts its part at index `at` and hands back the index behind it.
-// What finds no room is left out, so a text that comes out as long as the buffer is not to be trusted.
+// The call script's text: how it writes numbers that may be missing, marks, bytes, chunks, ranges and answers.
 use range_buf::RangeBuf;
-use refusal::{Answer, CountAnswer, EmitAnswer, OptionU64, Refusal, SizesAnswer};
+use ranges::Range;
+use refusal::Refusal;
+use std::fmt;
 
-pub fn byte(out: &mut [u8], at: usize, b: u8) -> usize {
-    if at < out.len() {
-        out[at] = b;
-        return at + 1;
-    }
-    at
+// What the script has a spelling of its own for.
+pub trait Shown: Copy {
+    fn show<W: fmt::Write>(self, f: &mut fmt::Formatter<W>) -> fmt::Result;
 }
 
-pub fn word(out: &mut [u8], at: usize, text: &[u8]) -> usize {
-    let mut n = at;
-    let mut i: usize = 0;
-    while i < text.len() {
-        n = byte(out, n, text[i]);
-        i += 1;
-    }
-    n
-}
+// The script's spelling of a value, to be printed.
+#[derive(Clone, Copy)]
+pub struct Text<T: Shown>(pub T);
 
-pub fn number(out: &mut [u8], at: usize, n: u64) -> usize {
-    let mut digits = [0u8; 20];
-    let k = io::decimal(n, &mut digits);
-    word(out, at, &digits[..k])
-}
-
-// A word and a number behind it.
-pub fn named(out: &mut [u8], at: usize, name: &[u8], n: u64) -> usize {
-    let a = word(out, at, name);
-    number(out, a, n)
-}
-
-// A word and a yes or no behind it.
-pub fn flag(out: &mut [u8], at: usize, name: &[u8], yes: bool) -> usize {
-    let a = word(out, at, name);
-    if yes {
-        return byte(out, a, b'1');
-    }
-    byte(out, a, b'0')
-}
-
-// A word and a number behind it, or a dash where there is none.
-pub fn optional(out: &mut [u8], at: usize, name: &[u8], n: OptionU64) -> usize {
-    let a = word(out, at, name);
-    match n {
-        OptionU64::None => byte(out, a, b'-'),
-        OptionU64::Some(m) => number(out, a, m),
+impl<T: Shown> fmt::Display for Text<T> {
+    fn fmt<W: fmt::Write>(&self, f: &mut fmt::Formatter<W>) -> fmt::Result {
+        self.0.show(f)
     }
 }
 
-// Text with a value in the place of each `%`: at most ten, the first for the first.
-pub fn form(out: &mut [u8], at: usize, text: &[u8], values: [OptionU64; 10]) -> usize {
-    let mut n = at;
-    let mut k: usize = 0;
-    let mut i: usize = 0;
-    while i < text.len() {
-        let b = text[i];
-        n = placed(out, n, b, values, k);
-        k = next(b, k);
-        i += 1;
-    }
-    n
-}
+// A table: its entries in brackets, with commas between.
+#[derive(Clone, Copy)]
+pub struct List<'a, T: Shown>(pub &'a [T]);
 
-fn placed(out: &mut [u8], at: usize, b: u8, values: [OptionU64; 10], k: usize) -> usize {
-    if b != b'%' {
-        return byte(out, at, b);
+impl<'a, T: Shown> fmt::Display for List<'a, T> {
+    fn fmt<W: fmt::Write>(&self, f: &mut fmt::Formatter<W>) -> fmt::Result {
+        write!(f, "[")?;
+        for (i, entry) in self.0.iter().enumerate() {
+            if i > 0 {
+                write!(f, ",")?;
+            }
+            entry.show(f)?;
+        }
+        write!(f, "]")
     }
-    if 9 < k {
-        return at;
-    }
-    let v = values[k];
-    optional(out, at, b"", v)
 }
-
-fn next(b: u8, k: usize) -> usize {
-    if b != b'%' {
-        return k;
-    }
-    if 9 < k {
-        return k;
-    }
-    k + 1
-}
-
-// A number, and a yes or no, as values of a form.
-pub fn some(n: u64) -> OptionU64 {
-    OptionU64::Some(n)
-}
-
-pub fn bit(yes: bool) -> OptionU64 {
-    if yes {
-        return OptionU64::Some(1);
-    }
-    OptionU64::Some(0)
-}
-
-// ---- bytes
 
 // Up to 32 bytes in full, more as their count and CRC-32.
-pub fn bytes(out: &mut [u8], at: usize, data: &[u8]) -> usize {
-    if 32 < data.len() {
-        return summed(out, at, data);
+#[derive(Clone, Copy)]
+pub struct Bytes<'a>(pub &'a [u8]);
+
+impl<'a> fmt::Display for Bytes<'a> {
+    fn fmt<W: fmt::Write>(&self, f: &mut fmt::Formatter<W>) -> fmt::Result {
+        let count = self.0.len();
+        if count > 32 {
+            let sum = crc32(self.0);
+            return write!(f, "h{count}:{sum:08x}");
+        }
+        write!(f, "x")?;
+        for b in self.0 {
+            write!(f, "{b:02x}")?;
+        }
+        Ok(())
     }
-    let a = byte(out, at, b'x');
-    in_full(out, a, data)
-}
-
-fn in_full(out: &mut [u8], at: usize, data: &[u8]) -> usize {
-    let mut n = at;
-    let mut i: usize = 0;
-    while i < data.len() {
-        n = hex(out, n, wide(data[i]), 2);
-        i += 1;
-    }
-    n
-}
-
-fn summed(out: &mut [u8], at: usize, data: &[u8]) -> usize {
-    let a = named(out, at, b"h", data.len() as u64);
-    let b = byte(out, a, b':');
-    hex(out, b, crc32(data), 8)
-}
-
-fn hex(out: &mut [u8], at: usize, n: u64, width: usize) -> usize {
-    let mut digits = [0u8; 16];
-    let k = io::hex(n, width, &mut digits);
-    word(out, at, &digits[..k])
 }
 
 // CRC-32 as in zip files.
-pub fn crc32(data: &[u8]) -> u64 {
-    let mut crc: u64 = 0xffff_ffff;
-    let mut i: usize = 0;
-    while i < data.len() {
-        crc = with_byte(crc, wide(data[i]));
-        i += 1;
-    }
-    crc ^ 0xffff_ffff
+fn crc32(bytes: &[u8]) -> u32 {
+    !bytes.iter().fold(u32::MAX, |crc, b| with_byte(crc, *b))
 }
 
-fn with_byte(crc: u64, b: u64) -> u64 {
-    let mut c = crc ^ b;
-    let mut i: u64 = 0;
-    while i < 8 {
-        c = with_bit(c);
-        i += 1;
-    }
-    c
+fn with_byte(crc: u32, b: u8) -> u32 {
+    (0..8).fold(crc ^ u32::from(b), |c, _| with_bit(c))
 }
 
-fn with_bit(c: u64) -> u64 {
+fn with_bit(c: u32) -> u32 {
     if c % 2 == 1 {
-        return (c / 2) ^ 0xedb8_8320;
+        (c / 2) ^ 0xedb8_8320
+    } else {
+        c / 2
     }
-    c / 2
 }
 
-fn wide(b: u8) -> u64 {
-    b as u64
+impl Shown for bool {
+    fn show<W: fmt::Write>(self, f: &mut fmt::Formatter<W>) -> fmt::Result {
+        write!(f, "{}", u8::from(self))
+    }
 }
 
-// ---- answers
-
-pub fn ok(out: &mut [u8]) -> usize {
-    word(out, 0, b"ok")
+impl Shown for Option<u64> {
+    fn show<W: fmt::Write>(self, f: &mut fmt::Formatter<W>) -> fmt::Result {
+        match self {
+            Some(n) => write!(f, "{n}"),
+            None => write!(f, "-"),
+        }
+    }
 }
 
-// `ok` and a number.
-pub fn ok_number(out: &mut [u8], n: u64) -> usize {
-    named(out, 0, b"ok ", n)
+impl Shown for RangeBuf {
+    fn show<W: fmt::Write>(self, f: &mut fmt::Formatter<W>) -> fmt::Result {
+        write!(f, "{}+{}~{}", self.off, self.len, self.pos)
+    }
 }
 
-// `ok` and a yes or no.
-pub fn ok_flag(out: &mut [u8], yes: bool) -> usize {
-    flag(out, 0, b"ok ", yes)
+impl Shown for Range {
+    fn show<W: fmt::Write>(self, f: &mut fmt::Formatter<W>) -> fmt::Result {
+        write!(f, "{}-{}", self.start, self.end)
+    }
 }
 
 // `no`, the refusal's number, and its code where it has one.
-pub fn refused(out: &mut [u8], at: usize, why: Refusal) -> usize {
-    let a = named(out, at, b"no ", why.number());
-    let code = why.code();
-    match code {
-        OptionU64::None => a,
-        OptionU64::Some(n) => named(out, a, b" ", n),
-    }
-}
-
-pub fn plain(out: &mut [u8], said: Answer) -> usize {
-    match said {
-        Answer::Done => ok(out),
-        Answer::Refused(why) => refused(out, 0, why),
-    }
-}
-
-pub fn count(out: &mut [u8], said: CountAnswer) -> usize {
-    match said {
-        CountAnswer::Count(n) => ok_number(out, n),
-        CountAnswer::Refused(why) => refused(out, 0, why),
-    }
-}
-
-pub fn sizes(out: &mut [u8], said: SizesAnswer) -> usize {
-    match said {
-        SizesAnswer::Sizes(first, second) => {
-            let a = ok_number(out, first);
-            named(out, a, b" ", second)
+impl Shown for Refusal {
+    fn show<W: fmt::Write>(self, f: &mut fmt::Formatter<W>) -> fmt::Result {
+        let number = self.number();
+        match self.code() {
+            Some(code) => write!(f, "no {number} {code}"),
+            None => write!(f, "no {number}"),
         }
-        SizesAnswer::Refused(why) => refused(out, 0, why),
     }
 }
 
-// A count and an end mark, with no bytes: what a discard answers.
-pub fn taken(out: &mut [u8], said: EmitAnswer) -> usize {
-    match said {
-        EmitAnswer::Emitted(n, fin) => {
-            let a = ok_number(out, n);
-            flag(out, a, b" ", fin)
+// What a call answers.
+#[derive(Drop)]
+pub enum Said {
+    // The object was never created.
+    Absent,
+    Done,
+    Number(u64),
+    Optional(Option<u64>),
+    Mark(bool),
+    Sizes(u64, u64),
+    // How many bytes, and whether they reach the final size; without the bytes, or with them.
+    Discarded(u64, bool),
+    Emitted(u64, bool, Vec<u8>),
+    Right(RangeBuf),
+    Ranges(Vec<Range>),
+    // What all getters give.
+    Getters(String),
+    Refused(Refusal),
+}
+
+impl From<Result<(), Refusal>> for Said {
+    fn from(answer: Result<(), Refusal>) -> Said {
+        answer.map_or_else(Said::Refused, |()| Said::Done)
+    }
+}
+
+impl From<Result<u64, Refusal>> for Said {
+    fn from(answer: Result<u64, Refusal>) -> Said {
+        answer.map_or_else(Said::Refused, Said::Number)
+    }
+}
+
+impl From<Result<(u64, u64), Refusal>> for Said {
+    fn from(answer: Result<(u64, u64), Refusal>) -> Said {
+        answer.map_or_else(Said::Refused, |(first, second)| Said::Sizes(first, second))
+    }
+}
+
+impl From<Result<(u64, bool), Refusal>> for Said {
+    fn from(answer: Result<(u64, bool), Refusal>) -> Said {
+        answer.map_or_else(Said::Refused, |(n, fin)| Said::Discarded(n, fin))
+    }
+}
+
+impl From<Result<RangeBuf, Refusal>> for Said {
+    fn from(answer: Result<RangeBuf, Refusal>) -> Said {
+        answer.map_or_else(Said::Refused, Said::Right)
+    }
+}
+
+impl Said {
+    // The bytes are the first of `out`.
+    pub fn emitted(answer: Result<(u64, bool), Refusal>, mut out: Vec<u8>) -> Said {
+        match answer {
+            Ok((n, fin)) => {
+                out.truncate(n as usize);
+                Said::Emitted(n, fin, out)
+            }
+            Err(why) => Said::Refused(why),
         }
-        EmitAnswer::Refused(why) => refused(out, 0, why),
     }
 }
 
-// The same with the bytes, which are the first of `room`.
-pub fn emitted(out: &mut [u8], said: EmitAnswer, room: &[u8]) -> usize {
-    let a = taken(out, said);
-    match said {
-        EmitAnswer::Emitted(n, _) => {
-            let b = byte(out, a, b' ');
-            first_bytes(out, b, n, room)
+impl fmt::Display for Said {
+    fn fmt<W: fmt::Write>(&self, f: &mut fmt::Formatter<W>) -> fmt::Result {
+        match self {
+            Said::Absent => write!(f, "-"),
+            Said::Done => write!(f, "ok"),
+            Said::Number(n) => write!(f, "ok {n}"),
+            Said::Optional(n) => write!(f, "ok {}", Text(*n)),
+            Said::Mark(yes) => write!(f, "ok {}", Text(*yes)),
+            Said::Sizes(first, second) => write!(f, "ok {first} {second}"),
+            Said::Discarded(n, fin) => write!(f, "ok {n} {}", Text(*fin)),
+            Said::Emitted(n, fin, bytes) => {
+                write!(f, "ok {n} {} {}", Text(*fin), Bytes(bytes.as_slice()))
+            }
+            Said::Right(chunk) => write!(f, "ok {}", Text(*chunk)),
+            Said::Ranges(ranges) => write!(f, "ok {}", List(ranges.as_slice())),
+            Said::Getters(text) => write!(f, "ok {text}"),
+            Said::Refused(why) => why.show(f),
         }
-        EmitAnswer::Refused(_) => a,
     }
-}
-
-fn first_bytes(out: &mut [u8], at: usize, n: u64, room: &[u8]) -> usize {
-    let k = refusal::least(n, room.len() as u64) as usize;
-    bytes(out, at, &room[0..k])
-}
-
-// Is there no state to be told, since the object is not there?
-pub fn no_state(has: bool, made: bool) -> bool {
-    if made {
-        return false;
-    }
-    !has
-}
-
-// What is told then: behind a refused creation that there is no state, and of any other call neither answer nor state. A line that was
-// not understood stays so.
-pub fn without_state(out: &mut [u8], at: usize, new: bool) -> usize {
-    if at == 0 {
-        return 0;
-    }
-    if new {
-        return word(out, at, b" | -");
-    }
-    word(out, 0, b"- | -")
-}
-
-// ---- tables
-
-pub fn chunk(out: &mut [u8], at: usize, c: RangeBuf) -> usize {
-    let a = number(out, at, c.off);
-    let b = named(out, a, b"+", c.len);
-    named(out, b, b"~", c.pos)
-}
-
-// A comma before every entry of a table but the first.
-pub fn comma(out: &mut [u8], at: usize, i: usize) -> usize {
-    if i == 0 {
-        return at;
-    }
-    byte(out, at, b',')
-}
-
-// The first `count` chunks of a buffer's table.
-pub fn chunks(out: &mut [u8], at: usize, table: [RangeBuf; 64], count: usize) -> usize {
-    let mut n = byte(out, at, b'[');
-    let mut i: usize = 0;
-    while i < 64 {
-        if count <= i {
-            break;
-        }
-        n = comma(out, n, i);
-        n = chunk(out, n, table[i]);
-        i += 1;
-    }
-    byte(out, n, b']')
-}
-
-// The bytes of the first `count` chunks, from the arena, as one string: all, or only those that are not consumed.
-pub fn held(
-    out: &mut [u8],
-    at: usize,
-    table: [RangeBuf; 64],
-    count: usize,
-    all: bool,
-    arena: &[u8],
-) -> usize {
-    let mut room = [0u8; 65536];
-    let n = gathered(&mut room, table, count, all, arena);
-    first_bytes(out, at, n as u64, &room)
-}
-
-// Copies those bytes to the front of `room`, and hands back how many they are.
-fn gathered(
-    room: &mut [u8],
-    table: [RangeBuf; 64],
-    count: usize,
-    all: bool,
-    arena: &[u8],
-) -> usize {
-    let mut n: usize = 0;
-    let mut i: usize = 0;
-    while i < 64 {
-        if count <= i {
-            break;
-        }
-        n = laid(room, n, table[i], all, arena);
-        i += 1;
-    }
-    n
-}
-
-// One chunk's bytes behind the first `at` of `room`.
-fn laid(room: &mut [u8], at: usize, c: RangeBuf, all: bool, arena: &[u8]) -> usize {
-    let from = skipped(c, all);
-    if room.len() < at {
-        return at;
-    }
-    if c.len < from {
-        return at;
-    }
-    let n = refusal::least(c.len - from, (room.len() - at) as u64) as usize;
-    let e = at + n;
-    arena::hand(arena, sum(c.off, from), &mut room[at..e]);
-    e
-}
-
-fn skipped(c: RangeBuf, all: bool) -> u64 {
-    if all {
-        return 0;
-    }
-    c.pos
-}
-
-fn sum(a: u64, b: u64) -> u64 {
-    if a < u64::MAX - b {
-        return a + b;
-    }
-    u64::MAX
-}
-
-pub fn either(first: bool, a: u64, b: u64) -> u64 {
-    if first {
-        return a;
-    }
-    b
 }

@@ -1,192 +1,119 @@
-// The calls of a window (`fc.`): each is made on a good window, and hands a good one on beside its answer's text.
+// A window (`fc.`): its calls, and how they are made.
 ghost use Rattle.flowcontrol.specs.State.{Good};
 
-use super::words::Words;
-use super::{names, text};
+use super::object::Object;
+use super::text::{Said, Shown, Text};
+use super::words::{Failure, number};
 use flowcontrol::FlowControl;
-use refusal::{Answer, OptionU64};
+use refusal::Refusal;
+use std::alloc::{AllocError, Global};
+use std::fmt;
 
-// The window after a call, and the length of the text put together for it (0: not understood). `made` says of a call whether it
-// created the window, and of a turn whether there is one.
+// It is good at all times, as its calls ask.
 #[derive(Drop)]
-pub struct Step {
+pub struct Window {
     pub flow: FlowControl,
-    pub at: usize,
-    pub made: bool,
+    ghost good: { Good flow },
 }
 
-// A call by its number, with `ANSWER | STATE` put into `out`. `has` says whether the object is there.
-pub fn turn(old: FlowControl, has: bool, what: u64, w: Words, out: &mut [u8]) -> Step
-    requires { Good old }
-    ensures { Good result.flow }
-{
-    let step = call(old, what, w, out);
-    let flow = step.flow;
-    if text::no_state(has, step.made) {
-        return Step {
-            flow: old,
-            at: text::without_state(out, step.at, what == names::NEW),
-            made: false,
-        };
-    }
-    let a = text::word(out, step.at, b" | ");
-    let at = state(out, a, flow);
-    Step {
-        flow,
-        at,
-        made: true,
-    }
+#[derive(Drop)]
+pub enum WindowCall {
+    AddConsumed(u64),
+    Commit { now: u64 },
+    Autotune { now: u64, rtt: u64 },
+    LowerBound(u64),
+    Window,
+    MaxData,
+    ShouldUpdate,
+    Next,
 }
 
-fn call(flow: FlowControl, what: u64, w: Words, out: &mut [u8]) -> Step
-    requires { Good flow }
-    ensures { Good result.flow }
-{
-    if what == names::NEW {
-        return new(flow, w, out);
-    }
-    if what == names::ADD_CONSUMED {
-        return told(consumed_more(flow, w.first), out);
-    }
-    if what == names::COMMIT {
-        return changed(committed(flow, w.first), out);
-    }
-    if what == names::AUTOTUNE {
-        return changed(autotuned(flow, w.first, w.second), out);
-    }
-    if what == names::LOWER_BOUND {
-        return told(at_least(flow, w.first), out);
-    }
-    Step {
-        flow,
-        at: asked(flow, what, w, out),
-        made: false,
-    }
-}
+impl Object for Window {
+    type Call = WindowCall;
 
-fn asked(flow: FlowControl, what: u64, w: Words, out: &mut [u8]) -> usize
-    requires { Good flow }
-{
-    if what == names::WINDOW {
-        return text::ok_number(out, flow.window());
+    fn create(_alloc: Global, words: &[&str]) -> Result<Result<Window, Refusal>, Failure> {
+        match words {
+            [limit, window, maximum] => Ok(Window::new(
+                number(limit)?,
+                number(window)?,
+                number(maximum)?,
+            )),
+            _ => Err(Failure::NotUnderstood),
+        }
     }
-    if what == names::MAX_DATA {
-        return text::ok_number(out, flow.max_data());
-    }
-    if what == names::SHOULD_UPDATE {
-        return text::ok_flag(out, flow.should_update_max_data());
-    }
-    if what == names::NEXT {
-        return text::ok_number(out, flow.max_data_next());
-    }
-    0
-}
 
-// A window as a state shows it.
-pub fn state(out: &mut [u8], at: usize, flow: FlowControl) -> usize {
-    let last = flow.last_update;
-    let none = OptionU64::None;
-    let numbers = [
-        text::some(flow.consumed),
-        text::some(flow.max_data),
-        text::some(flow.window),
-        text::some(flow.max_window),
-        last,
-        none,
-        none,
-        none,
-        none,
-        none,
-    ];
-    text::form(
-        out,
-        at,
-        b"consumed=% limit=% window=% maximum=% last=%",
-        numbers,
-    )
-}
+    fn read(_alloc: Global, name: &str, words: &[&str]) -> Result<WindowCall, Failure> {
+        Ok(match (name, words) {
+            ("add_consumed", [n]) => WindowCall::AddConsumed(number(n)?),
+            ("commit", [now]) => WindowCall::Commit { now: number(now)? },
+            ("autotune", [now, rtt]) => WindowCall::Autotune {
+                now: number(now)?,
+                rtt: number(rtt)?,
+            },
+            ("lower_bound", [n]) => WindowCall::LowerBound(number(n)?),
+            ("window", []) => WindowCall::Window,
+            ("max_data", []) => WindowCall::MaxData,
+            ("should_update", []) => WindowCall::ShouldUpdate,
+            ("next", []) => WindowCall::Next,
+            _ => return Err(Failure::NotUnderstood),
+        })
+    }
 
-fn new(old: FlowControl, w: Words, out: &mut [u8]) -> Step
-    requires { Good old }
-    ensures { Good result.flow }
-{
-    let done = created(w.first, w.second, w.third);
-    let said = done.answer;
-    let flow = done.flow;
-    let at = text::plain(out, said);
-    let Answer::Done = said else {
-        return Step {
-            flow: old,
-            at,
-            made: false,
-        };
-    };
-    Step {
-        flow,
-        at,
-        made: true,
+    fn call(&mut self, _alloc: Global, call: WindowCall) -> Result<Said, AllocError> {
+        Ok(match call {
+            WindowCall::AddConsumed(n) => self.add_consumed(n),
+            WindowCall::Commit { now } => self.commit(now),
+            WindowCall::Autotune { now, rtt } => self.autotune(now, rtt),
+            WindowCall::LowerBound(n) => self.lower_bound(n),
+            WindowCall::Window => Said::Number(self.flow.window()),
+            WindowCall::MaxData => Said::Number(self.flow.max_data()),
+            WindowCall::ShouldUpdate => Said::Mark(self.flow.should_update_max_data()),
+            WindowCall::Next => Said::Number(self.flow.max_data_next()),
+        })
+    }
+
+    fn state(&self, alloc: Global) -> Result<String, AllocError> {
+        format!(in alloc; "{}", Text(self.flow))
     }
 }
 
-pub fn told(done: flowcontrol::Outcome, out: &mut [u8]) -> Step
-    requires { Good done.flow }
-    ensures { Good result.flow }
-{
-    let said = done.answer;
-    let flow = done.flow;
-    let at = text::plain(out, said);
-    Step {
-        flow,
-        at,
-        made: false,
+impl Window {
+    fn new(limit: u64, window: u64, maximum: u64) -> Result<Window, Refusal> {
+        let done = FlowControl::new(limit, window, maximum);
+        done.answer?;
+        Ok(Window { flow: done.state })
+    }
+
+    pub fn add_consumed(&mut self, n: u64) -> Said {
+        let done = self.flow.add_consumed(n);
+        self.flow = done.state;
+        done.answer.into()
+    }
+
+    fn commit(&mut self, now: u64) -> Said {
+        self.flow = self.flow.update_max_data(now);
+        Said::Done
+    }
+
+    fn autotune(&mut self, now: u64, rtt: u64) -> Said {
+        self.flow = self.flow.autotune_window(now, rtt);
+        Said::Done
+    }
+
+    pub fn lower_bound(&mut self, n: u64) -> Said {
+        let done = self.flow.ensure_window_lower_bound(n);
+        self.flow = done.state;
+        done.answer.into()
     }
 }
 
-// A call that always succeeds.
-fn changed(flow: FlowControl, out: &mut [u8]) -> Step
-    requires { Good flow }
-    ensures { Good result.flow }
-{
-    let at = text::ok(out);
-    Step {
-        flow,
-        at,
-        made: false,
+impl Shown for FlowControl {
+    fn show<W: fmt::Write>(self, f: &mut fmt::Formatter<W>) -> fmt::Result {
+        let last = Text(self.last_update);
+        write!(
+            f,
+            "consumed={} limit={} window={} maximum={} last={last}",
+            self.consumed, self.max_data, self.window, self.max_window
+        )
     }
-}
-
-// ---- the calls themselves, with what their laws say: the window that each leaves is good
-
-pub fn created(max_data: u64, window: u64, max_window: u64) -> flowcontrol::Outcome
-    ensures { Good result.flow }
-{
-    FlowControl::new(max_data, window, max_window)
-}
-
-pub fn consumed_more(flow: FlowControl, n: u64) -> flowcontrol::Outcome
-    requires { Good flow }
-    ensures { Good result.flow }
-{
-    flow.add_consumed(n)
-}
-
-pub fn at_least(flow: FlowControl, n: u64) -> flowcontrol::Outcome
-    requires { Good flow }
-    ensures { Good result.flow }
-{
-    flow.ensure_window_lower_bound(n)
-}
-
-fn committed(flow: FlowControl, now: u64) -> FlowControl
-    requires { Good flow }
-    ensures { Good result }
-{
-    flow.update_max_data(now)
-}
-
-fn autotuned(flow: FlowControl, now: u64, rtt: u64) -> FlowControl
-    requires { Good flow }
-    ensures { Good result }
-{
-    flow.autotune_window(now, rtt)
 }

@@ -19,33 +19,33 @@ loop-i-init c =
     let a = c.args in
     (omega arith, refl, c.place-at.ensures.1, rw (add-zero a.off) c.place-at.ensures.0, rw (add-zero a.off))
 
-pub copy-requires : goal.copy-requires
-copy-requires c =
-    let fit = c.stretch-n.ensures in
+pub copy_from_slice-requires : goal.copy_from_slice-requires
+copy_from_slice-requires c =
+    let fit = c.min-n.ensures in
     let l = c.loop-i in
-    alike _ _ _ _ c.stretch-n.result (omega (arith, fit, l.invariant.1, l.invariant.2)) (omega (arith, fit, l.invariant.0))
+    alike _ _ _ _ c.min-n.result (omega (arith, fit, l.invariant.1, l.invariant.2)) (omega (arith, fit, l.invariant.0))
 
 pub loop-i-smaller : goal.loop-i-smaller
 loop-i-smaller c =
     let l = c.loop-i in
-    less _ _ l.i l.at c.stretch-n.result c.stretch-n.ensures c.loop-i-test.true l.invariant.2
+    less _ _ l.i l.at c.min-n.result c.min-n.ensures c.loop-i-test.true l.invariant.2
 
 pub loop-i-preserved : goal.loop-i-preserved
 loop-i-preserved c =
-    let n = c.stretch-n.result in
-    let fit = c.stretch-n.ensures in
+    let n = c.min-n.result in
+    let fit = c.min-n.ensures in
     let l = c.loop-i in
     let a = c.args in
-    let k = c.copy in
+    let k = c.copy_from_slice in
     let all = length a.arena.now in
     let room : l.at + n ≤ length l.arena = omega (arith, fit, l.invariant.1, l.invariant.2) in
     let left : l.i + n ≤ length a.src.now = omega (arith, fit, l.invariant.0) in
     let at : l.at ≡ (a.off + l.i) % length l.arena = rw l.invariant.1 l.invariant.3 in (
       left,
-      put_length l.at n l.arena k.new.dst room (ap length k.ensures ∙ part_length _ _ n (omega (arith, fit, l.invariant.0))) ∙ l.invariant.1,
+      put_length l.at n l.arena k.new.self room (ap length k.ensures.after ∙ part_length _ _ n (omega (arith, fit, l.invariant.0))) ∙ l.invariant.1,
       c.following-at.ensures.1,
       c.following-at.ensures.0 ∙ follows all (a.off + l.i) l.at n l.invariant.3 ∙ ap (λ (m : ℕ). m % all) (add_assoc a.off l.i n),
-      keep_turn l.arena a.off l.i l.at n a.src.now k.new.dst at room left k.ensures ∙ l.invariant.4,
+      keep_turn l.arena a.off l.i l.at n a.src.now k.new.self at room left k.ensures.after ∙ l.invariant.4,
     )
 
 pub shape_of-arena : goal.shape_of-arena

@@ -1,10 +1,12 @@
--- `RecvBuf::keep_new` meets its contract. The invariant, `Keeping`: to keep what is new from here on gives the whole. Assumes nothing.
-use Prim.Native.Nat.{◌-◌, ◌≤◌}
-use Rattle.recv_buf.proofs.Keeping.{Keeping}
+-- `RecvBuf::keep_new` meets its contract. The invariant: to keep the other runs gives the whole. Assumes nothing.
+use mathlib.Core.Path.{◌≡◌}
+use Prim.Native.Nat.{◌≤◌}
+use lib.ListN.{drop}
+use Rattle.recv_buf.proofs.Keeping.{run_by_run}
 use Rattle.recv_buf.proofs.RecvBuf.keep_new.Given as goal
 
-abbrev pub invariant-loop-i : goal.invariant-loop-i
-invariant-loop-i l = (l.count ≤ 64) × Keeping l.self l.off l.input l.initial.arena l.arena l.lo l.i
-
-abbrev pub decreases-loop-i : goal.decreases-loop-i
-decreases-loop-i l = l.count - l.i
+abbrev pub invariant-loop-chunk : goal.invariant-loop-chunk
+invariant-loop-chunk l = record {
+  above : l.off ≤ l.lo;
+  rest : run_by_run l.off l.input (drop l.chunk-index l.chunk-items) l.lo l.arena ≡ run_by_run l.off l.input l.chunk-items l.initial.lo l.initial.arena;
+}

@@ -1,5 +1,10 @@
 -- `SendBuf::append` meets its contract. The invariant, `Going`: to cut and keep what is left gives what the contract says. Assumes nothing.
-use Prim.Native.Nat.{◌+◌}
+use Prim.Native.Nat.{◌+◌, ◌-◌, ℕ}
+use Rattle.arena.specs.Rules.{kept}
+use Rattle.range_buf.specs.Rules.{created}
+use Rattle.send_buf.specs.declared.SendBuf.{SendBuf}
+use lib.ListN.{drop, take}
+use mathlib.Core.Path.{◌≡◌, ◌∙◌, ap}
 use Rattle.send_buf.proofs.Cutting.{ends, grown_made, made_fresh, starts, turns}
 use borrow.Author.Rules.{rules}
 use native.Mathlib.Omega.{arith}
@@ -11,11 +16,14 @@ loop-at-init c = starts c.args.arena.now c.args.self c.args.input.now c.args.k c
 pub loop-at-preserved : goal.loop-at-preserved
 loop-at-preserved c =
     let g = c.args in
-    let p = c.piece-n in
-    let m = made_fresh (g.self.off + c.loop-at.at) p.result c.from-made.result (omega (arith, c.loop-at.invariant.top, p.ensures.1)) c.from-made.ensures in
-    turns g.arena.now g.self g.input.now g.k c.loop-at.arena c.loop-at.next c.loop-at.at c.loop-at.invariant (search rules) p.result c.from-made.result.buf c.keep.new.arena p.ensures.0 m.1 c.keep.ensures
+    let v = c.loop-at in
+    let p = c.min-n in
+    let o : v.self.off ≡ g.self.off = ap (λ (x : SendBuf). x.off) v.invariant.rest in
+    let m = made_fresh (g.self.off + v.at) p.result c.from-made.result (omega (arith, v.invariant.top, p.ensures)) (c.from-made.ensures ∙ ap (λ (n : ℕ). created (n + v.at) p.result) o) in
+    turns g.arena.now g.self g.input.now g.k v.arena v.self v.at v.invariant (search rules) p.result c.from-made.result.state c.keep.new.arena p.ensures m.1
+    (c.keep.ensures ∙ ap (λ (n : ℕ). kept v.arena (n + v.at) (take (v.at + p.result - v.at) (drop v.at g.input.now))) o)
 
 pub returns : goal.returns
 returns c =
-    let e = ends c.args.arena.now c.args.self c.args.input.now c.args.k c.loop-at.arena c.loop-at.next c.loop-at.at c.loop-at.invariant (search rules) in
-    record { value = grown_made c.args.self c.args.k c.loop-at.next c.requires.good c.loop-at.invariant.rest e.1 e.2; arena_after = e.0 }
+    let e = ends c.args.arena.now c.args.self c.args.input.now c.args.k c.loop-at.arena c.loop-at.self c.loop-at.at c.loop-at.invariant (search rules) in
+    record { value = grown_made c.args.self c.args.k c.loop-at.self c.requires.good c.loop-at.invariant.rest e.1 e.2; arena_after = e.0 }

@@ -4,7 +4,7 @@ use Rattle.send_buf.proofs.Cutting.{Going}
 use Rattle.send_buf.proofs.SendBuf.append.Given as goal
 
 abbrev pub invariant-loop-at : goal.invariant-loop-at
-invariant-loop-at l = Going l.initial.arena l.self l.input l.k l.arena l.next l.at
+invariant-loop-at l = Going l.initial.arena l.initial.self l.input l.k l.arena l.self l.at
 
 abbrev pub decreases-loop-at : goal.decreases-loop-at
 decreases-loop-at l = l.k - l.at

@@ -1,30 +1,25 @@
--- `SendBuf::first` meets its contract. The invariant: to look on from here gives the index that the contract says. Assumes nothing.
-use Prim.Native.Nat.{◌<◌, ◌≤◌}
-use Rattle.range_buf.specs.Rules.{avail, zero_buf}
-use Rattle.send_buf.proofs.Asked.{skip_here, skip_on}
-use Rattle.send_buf.proofs.Good.{chunk_good, few, pos_in}
-use borrow.Author.Rules.{rules}
-use lib.ListN.{get_or}
-use mathlib.Core.Path.{refl}
+-- `SendBuf::first` meets its contract. Assumes nothing.
+use Rattle.range_buf.specs.declared.RangeBuf.{RangeBuf}
+use Rattle.send_buf.proofs.Chunks.{skipped_le}
+use Rattle.send_buf.proofs.Good.{chunks_length, few}
+use Rattle.send_buf.specs.Rules.{skipped}
+use Rattle.send_buf.specs.State.{view_of}
+use Rattle.std.proofs.lemmas.List.{take_rest}
+use Prim.Native.Nat.{◌+◌, ◌-◌, ℕ}
+use lib.ListN.{drop, length, length-drop, take}
+use mathlib.Core.List.{List}
+use mathlib.Core.Path.{◌≡◌, ◌∙◌, ap}
 use native.Mathlib.Omega.{arith}
 use Rattle.send_buf.proofs.SendBuf.first.Goals as goal
 
-pub loop-i-init : goal.loop-i-init
-loop-i-init c = (pos_in c.args.self c.requires, few c.args.self c.requires, refl)
+pub chunks-requires : goal.chunks-requires
+chunks-requires c = few c.args.self.now c.requires
 
-pub len-requires : goal.len-requires
-len-requires c = chunk_good c.args.self c.requires c.loop-i.i (search rules)
-
-pub loop-i-preserved : goal.loop-i-preserved
-loop-i-preserved c =
-    let b = c.args.self in
-    let k : avail (get_or b.«data» c.loop-i.i zero_buf) ≤ 0 = omega (arith, c.len.ensures) in
-    let e = skip_on b c.requires c.loop-i.i (search rules) k in
-    (search rules, c.loop-i.invariant.1, omega (arith, c.loop-i.invariant.2, e))
-
-pub returns-then-len-gt0 : goal.returns-then-len-gt0
-returns-then-len-gt0 c =
-    let b = c.args.self in
-    let k : 0 < avail (get_or b.«data» c.loop-i.i zero_buf) = omega (arith, c.len.ensures) in
-    let e = skip_here b c.requires c.loop-i.i (search rules) k in
-    (omega (arith, c.loop-i.invariant.2, e), c.loop-i.invariant.0)
+pub returns : goal.returns
+returns c =
+    let b = c.args.self.now in
+    let l : List RangeBuf = drop b.pos (view_of b).chunks in
+    let e : c.skipped.result ≡ skipped l =
+    c.skipped.ensures.count ∙ ap (λ (m : List RangeBuf). skipped (take (length m - b.pos) (drop b.pos m))) c.chunks.ensures
+    ∙ ap skipped (take_rest (view_of b).chunks b.pos) in
+    (ap (λ (n : ℕ). b.pos + n) e, omega (arith, e, skipped_le l, length-drop b.pos (view_of b).chunks, chunks_length b c.requires, c.requires.facts.pos_in))

@@ -17,4 +17,4 @@ returns-then-no_room c =
 pub returns : goal.returns
 unfolding bytes_judged
 returns c =
-    simp (sym c.passes_final.ensures ∙ c.if-passes_final.false, sym c.no_room.ensures ∙ c.if-no_room.false, never_full (view_of c.args.self) c.requires.facts c.args.n)
+    simp (sym c.passes_final.ensures ∙ c.if-passes_final.false, sym c.no_room.ensures ∙ c.if-no_room.false, never_full (view_of c.args.self.now) c.requires.facts c.args.n)

@@ -9,10 +9,10 @@ pub returns-then-other_arena : goal.returns-then-other_arena
 unfolding write_judged
 returns-then-other_arena c = simp (sym c.other_arena.ensures ∙ c.if-other_arena.true)
 
-pub returns-in-None : goal.returns-in-None
-returns-in-None c =
-    c.judge_bytes.ensures ∙ sym (judged_on (view_of c.args.self) c.args.a c.args.n c.args.fin (sym c.other_arena.ensures ∙ c.if-other_arena.false) c.in-None.is)
-
 pub returns-in-Some : goal.returns-in-Some
 returns-in-Some c =
-    sym (judged_stopped (view_of c.args.self) c.args.a c.args.n c.args.fin c.in-Some.code (sym c.other_arena.ensures ∙ c.if-other_arena.false) c.in-Some.is)
+    sym (judged_stopped (view_of c.args.self.now) c.args.a c.args.n c.args.fin c.in-Some.code (sym c.other_arena.ensures ∙ c.if-other_arena.false) c.in-Some.is)
+
+pub returns : goal.returns
+returns c =
+    c.judge_bytes.ensures ∙ sym (judged_on (view_of c.args.self.now) c.args.a c.args.n c.args.fin (sym c.other_arena.ensures ∙ c.if-other_arena.false) c.in_default.is)

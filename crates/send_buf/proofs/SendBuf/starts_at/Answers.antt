@@ -11,21 +11,21 @@ use mathlib.Core.Path.{◌∙◌, ap, sym}
 use native.Mathlib.Omega.{arith}
 use Rattle.send_buf.proofs.SendBuf.starts_at.Goals as goal
 
-pub returns-then-count-i : goal.returns-then-count-i
-returns-then-count-i c =
-    sym (front_end c.args.self c.requires.good (rw (← c.requires.i_value) c.if-count-i.true))
+pub returns-else-i-self : goal.returns-else-i-self
+returns-else-i-self c =
+    sym (front_end c.args.self.now c.requires.good (rw (← c.requires.i_value) c.if-i-self.false))
 
-pub offset_bounds-data-i : goal.offset_bounds-data-i
-offset_bounds-data-i c = omega (arith, few c.args.self c.requires.good)
+pub offset_bounds-self-i : goal.offset_bounds-self-i
+offset_bounds-self-i c = omega (arith, few c.args.self.now c.requires.good)
 
-pub bounds-data-i : goal.bounds-data-i
-bounds-data-i c = omega (arith, few c.args.self c.requires.good)
+pub bounds-self-i : goal.bounds-self-i
+bounds-self-i c = omega (arith, few c.args.self.now c.requires.good)
 
 pub off-requires : goal.off-requires
-off-requires c = chunk_good c.args.self c.requires.good c.args.i (search rules)
+off-requires c = chunk_good c.args.self.now c.requires.good c.args.i (search rules)
 
-pub returns : goal.returns
-returns c =
-    let b = c.args.self in
-    let h : first (view_of b) < b.count = rw (← c.requires.i_value) c.if-count-i.false in
+pub returns-then-i-self : goal.returns-then-i-self
+returns-then-i-self c =
+    let b = c.args.self.now in
+    let h : first (view_of b) < b.count = rw (← c.requires.i_value) c.if-i-self.true in
     c.off.ensures ∙ ap (λ (i : ℕ). start (get_or b.«data» i zero_buf)) c.requires.i_value ∙ sym (front_at_lem b c.requires.good h).0

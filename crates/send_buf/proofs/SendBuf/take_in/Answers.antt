@@ -8,7 +8,7 @@ use lib.ListN.{length}
 use mathlib.Core.Path.{◌∙◌, sym}
 use Rattle.send_buf.proofs.SendBuf.take_in.Goals as goal
 
-pub returns : goal.returns
-returns c =
+pub returns-else-overflows-clause-value : goal.returns-else-overflows-clause-value
+returns-else-overflows-clause-value c =
     let h = ltb-false 64 (length (view_of c.args.self).chunks + pieces c.args.k) (sym c.overflows.ensures ∙ c.if-overflows.false) in
-    record { value = c.append.ensures.value ∙ took_plain (view_of c.args.self) c.args.k h; arena_after = c.append.ensures.arena_after }
+    c.append.ensures.value ∙ took_plain (view_of c.args.self) c.args.k h

@@ -1,0 +1,2 @@
+-- Every run is sound.
+pub mod Sound

@@ -1,6 +1,0 @@
--- `arrive` hands back a good buffer. Assumes nothing.
-use Rattle.recv_buf.proofs.Kept.{written_good}
-use Rattle.carry.proofs.calls.arrive.Goals as goal
-
-pub returns : goal.returns
-returns c = rw c.write.ensures.value (written_good _ c.requires.facts _ _ _ _)

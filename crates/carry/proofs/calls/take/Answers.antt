@@ -1,6 +1,0 @@
--- `take` hands back a good buffer. Assumes nothing.
-use Rattle.recv_buf.proofs.Kept.{emitted_good}
-use Rattle.carry.proofs.calls.take.Goals as goal
-
-pub returns : goal.returns
-returns c = rw c.emit.ensures.value (emitted_good _ c.requires.facts _ _)

@@ -1,6 +1,0 @@
--- `write` hands back a good buffer. Assumes nothing.
-use Rattle.send_buf.proofs.Kept.{written_good}
-use Rattle.carry.proofs.calls.write.Goals as goal
-
-pub returns : goal.returns
-returns c = rw c.write.ensures.value (written_good _ c.requires.facts _ _ _)

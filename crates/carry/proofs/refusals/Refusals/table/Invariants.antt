@@ -1,9 +1,0 @@
--- `table` is safe and ends. Assumes nothing.
-use Prim.Native.Nat.{◌-◌}
-use Rattle.carry.proofs.refusals.Refusals.table.Given as goal
-
-abbrev pub invariant-loop-i : goal.invariant-loop-i
-invariant-loop-i l = Unit {0}
-
-abbrev pub decreases-loop-i : goal.decreases-loop-i
-decreases-loop-i l = 55 - l.i

@@ -1,0 +1,15 @@
+-- `Reach::of` meets its contract. The invariant: to go on from here gives the whole. Assumes nothing.
+use mathlib.Core.Path.{◌≡◌}
+use Prim.Native.Nat.{◌+◌, ◌-◌, ◌≤◌}
+use lib.ListN.{drop}
+use Rattle.refusal.specs.Rules.{M}
+use Rattle.recv_buf.specs.Rules.{taken, left_over}
+use Rattle.recv_buf.proofs.Reach.of.Given as goal
+
+abbrev pub invariant-loop-i : goal.invariant-loop-i
+invariant-loop-i l = record {
+  room : l.bytes ≤ l.n;
+  below : l.off + l.bytes ≤ M;
+  bytes : taken l.chunks l.off l.n ≡ l.bytes + taken (drop l.i l.chunks) (l.off + l.bytes) (l.n - l.bytes);
+  left : left_over l.chunks l.off l.n ≡ left_over (drop l.i l.chunks) (l.off + l.bytes) (l.n - l.bytes);
+}

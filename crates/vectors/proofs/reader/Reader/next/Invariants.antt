@@ -1,8 +1,0 @@
--- `reader::Reader::next` is safe and ends. Assumes nothing.
-use Rattle.vectors.proofs.reader.Reader.next.Given as goal
-
-abbrev pub invariant-loop-left : goal.invariant-loop-left
-invariant-loop-left l = Unit {0}
-
-abbrev pub decreases-loop-left : goal.decreases-loop-left
-decreases-loop-left l = l.left

@@ -1,6 +1,0 @@
--- `send::emitted` leaves a good object. Assumes nothing.
-use Rattle.send_buf.proofs.Kept.{emitted_good}
-use Rattle.vectors.proofs.send.emitted.Goals as goal
-
-pub returns : goal.returns
-returns c = rw c.emit.ensures.value (emitted_good _ c.requires.facts _ _)

@@ -1,6 +1,0 @@
--- `send::lost` leaves a good object. Assumes nothing.
-use Rattle.send_buf.proofs.Kept.{retransmits_good}
-use Rattle.vectors.proofs.send.lost.Goals as goal
-
-pub returns : goal.returns
-returns c = rw c.retransmit.ensures (retransmits_good _ c.requires.facts _ _)

@@ -1,6 +1,0 @@
--- `send::shut` leaves a good object. Assumes nothing.
-use Rattle.send_buf.proofs.Kept.{shuts_good}
-use Rattle.vectors.proofs.send.shut.Goals as goal
-
-pub returns : goal.returns
-returns c = rw c.shutdown.ensures (shuts_good _ c.requires.facts)

@@ -1,6 +1,0 @@
--- `send::written` leaves a good object. Assumes nothing.
-use Rattle.send_buf.proofs.Kept.{written_good}
-use Rattle.vectors.proofs.send.written.Goals as goal
-
-pub returns : goal.returns
-returns c = rw c.write.ensures.value (written_good _ c.requires.facts _ _ _)

@@ -1,0 +1,106 @@
+// What is known of the list so far: the objects, the call that stands before its verdict, and what was counted.
+use super::case::{Case, Made, Verdict};
+use super::objects::Objects;
+use super::tally::Tally;
+use super::words::Failure;
+use std::alloc::{AllocError, Global};
+
+#[derive(Drop)]
+pub struct Replay {
+    alloc: Global,
+    objects: Objects,
+    case: Case,
+    tally: Tally,
+    // How many lines were read.
+    lines: u64,
+}
+
+impl Replay {
+    pub fn new(alloc: Global) -> Replay {
+        Replay {
+            alloc,
+            objects: Objects::new(),
+            case: Case::Nothing,
+            tally: Tally::new(),
+            lines: 0,
+        }
+    }
+
+    pub fn line(&mut self, rt: &impl Print, line: &[u8]) -> Result<(), AllocError> {
+        self.lines = self.lines.saturating_add(1);
+        match line {
+            [] | [b'#', ..] => Ok(()),
+            [b'<' | b'!', ..] => self.stored(rt, line),
+            _ => {
+                self.settle(rt);
+                self.asked(rt, line)
+            }
+        }
+    }
+
+    // A line that does not fit is reported, and the call that it may belong to has no further verdict.
+    pub fn too_long(&mut self, rt: &impl Print) {
+        self.lines = self.lines.saturating_add(1);
+        let _ = println!(rt; "line {}: too long", self.lines);
+        self.tally.differs();
+        self.case = Case::Passed;
+    }
+
+    // The closing table.
+    pub fn close(&mut self, rt: &impl Print, broken: bool) {
+        self.settle(rt);
+        self.tally.broken = broken;
+        let _ = print!(rt; "{}", self.tally);
+    }
+
+    // A stored answer: quiche's, or the rules'.
+    fn stored(&mut self, rt: &impl Print, line: &[u8]) -> Result<(), AllocError> {
+        match &mut self.case {
+            Case::Nothing => self.not_understood(rt),
+            Case::Passed => {}
+            Case::Made(made) => made.hold_against(self.alloc, line)?,
+        }
+        Ok(())
+    }
+
+    // The next line of the script: the start of a sequence, where all objects are gone, or a call.
+    fn asked(&mut self, rt: &impl Print, line: &[u8]) -> Result<(), AllocError> {
+        if line == b"seq".as_slice() || line.starts_with(b"seq ") {
+            self.objects = Objects::new();
+            return Ok(());
+        }
+        match self.objects.call(self.alloc, line) {
+            Ok((kind, ours)) => {
+                self.case = Case::Made(Made {
+                    line: self.lines,
+                    kind,
+                    call: Vec::from_slice(self.alloc, line)?,
+                    ours,
+                    verdict: Verdict::Waits,
+                });
+                Ok(())
+            }
+            Err(Failure::NotUnderstood) => {
+                self.case = Case::Passed;
+                self.not_understood(rt);
+                Ok(())
+            }
+            Err(Failure::OutOfMemory) => Err(AllocError),
+        }
+    }
+
+    fn not_understood(&mut self, rt: &impl Print) {
+        self.tally.not_understood();
+        if self.tally.unclear < 6 {
+            let _ = println!(rt; "line {}: not understood", self.lines);
+        }
+    }
+
+    // The call before is done with.
+    fn settle(&mut self, rt: &impl Print) {
+        if let Case::Made(made) = &self.case {
+            made.settle(rt, &mut self.tally);
+        }
+        self.case = Case::Nothing;
+    }
+}
