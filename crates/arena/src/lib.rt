@@ -5,11 +5,12 @@
 //     place    2  3  0  1  2  3           10 lies where 6 lay: one of them must be gone
 //
 // A run of at most A offsets lies in at most two stretches: up to the arena's end, and on from its start. Each is copied as a whole part.
+// A longer run goes round: each further stretch begins at the start, too.
 //
 // Any arena, offset and bytes are taken. Offsets are whole numbers: the place of offset 2^64 is 2^64 mod A.
 #![tactic(auto)]
 
-ghost use Rattle.std.specs.Prelude.{◌≡◌, ◌%◌, ◌≤◌, ◌<◌, min, length};
+ghost use Rattle.std.specs.Prelude.{◌≡◌, ◌%◌, ◌<◌, length};
 ghost use Rattle.arena.specs.Rules.{kept, handed};
 
 // Keeps the bytes of `src` from offset `off` on. An arena of no places keeps nothing.
@@ -17,17 +18,14 @@ pub fn keep(arena: &mut [u8], off: u64, src: &[u8])
     ensures { arena.new ≡ kept arena.old off src.now }
 {
     let all = arena.len();
-    if all == 0 {
+    if all == 0 || src.is_empty() {
         return;
     }
-    let mut at = place(off, all);
-    let mut i = 0;
-    // A `while`: the index moves by a stretch a turn, and `chunks` would need the first stretch, which is shorter, told apart.
-    while i < src.len() {
-        let n = (src.len() - i).min(all - at);
-        arena[at..at + n].copy_from_slice(&src[i..i + n]);
-        at = following(at + n, all);
-        i += n;
+    let at = place(off, all);
+    let (front, rest) = src.split_at(src.len().min(all - at));
+    arena[at..at + front.len()].copy_from_slice(front);
+    for part in rest.chunks(all) {
+        arena[..part.len()].copy_from_slice(part);
     }
 }
 
@@ -36,17 +34,16 @@ pub fn hand(arena: &[u8], off: u64, out: &mut [u8])
     ensures { out.new ≡ handed arena.now off out.old }
 {
     let all = arena.len();
-    if all == 0 {
+    if all == 0 || out.is_empty() {
         return;
     }
-    let mut at = place(off, all);
-    let mut i = 0;
-    // A `while`, as in `keep`.
-    while i < out.len() {
-        let n = (out.len() - i).min(all - at);
-        out[i..i + n].copy_from_slice(&arena[at..at + n]);
-        at = following(at + n, all);
-        i += n;
+    let at = place(off, all);
+    let end = out.len().min(all - at);
+    out[..end].copy_from_slice(&arena[at..at + end]);
+    // Not by `chunks_mut`: of a slice that it has lent, a proof knows the length alone, and not the bytes.
+    for start in (end..out.len()).step_by(all) {
+        let n = (out.len() - start).min(all);
+        out[start..start + n].copy_from_slice(&arena[..n]);
     }
 }
 
@@ -56,12 +53,4 @@ fn place(off: u64, all: usize) -> usize
     ensures { (result ≡ off % all) × (result < all) }
 {
     (off % all as u64) as usize
-}
-
-// The place behind a stretch that ends before place `end`: behind the last comes the first.
-fn following(end: usize, all: usize) -> usize
-    requires { (0 < all) × (end ≤ all) }
-    ensures { (result ≡ end % all) × (result < all) }
-{
-    if end < all { end } else { 0 }
 }

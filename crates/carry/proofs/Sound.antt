@@ -1,6 +1,6 @@
--- Every run is sound: its ghost fields say so. Assumes nothing.
+-- Every run is sound: the ghost fields of its ends say so. Assumes nothing.
 use Rattle.carry.specs.declared.run.Run.{Run}
 use Rattle.carry.specs.Sound.{Sound}
 
 pub sound : (r : Run) → Sound r
-sound r = record { sender = r.sender; receiver = r.receiver; connection = r.connection; small = r.small }
+sound r = record { sender = r.ends.sender; receiver = r.ends.receiver; connection = r.ends.connection; small = r.ends.small }

@@ -1,4 +1,3 @@
 -- What the contracts of the program cite.
-pub mod Props
 pub mod Sound
 pub mod Verdict

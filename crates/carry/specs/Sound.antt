@@ -1,5 +1,5 @@
 -- What holds of a run from its first round to its last: both buffers and the connection's window are good, so each call of theirs may be
--- made, and a frame fits a slot. The ghost fields of `Run` say so (proofs/Sound.antt).
+-- made, and a frame fits a slot. The ghost fields of its `ends` say so (proofs/Sound.antt).
 use Rattle.std.specs.Prelude.{◌≤◌}
 use Rattle.flowcontrol.specs.State.{Good as GoodFlow}
 use Rattle.send_buf.specs.State.{Good as GoodSend}
@@ -7,7 +7,7 @@ use Rattle.recv_buf.specs.State.{Good as GoodRecv}
 use Rattle.carry.specs.declared.run.Run.{Run}
 
 pub record Sound (r : Run) : Type 0 where
-  pub sender : GoodSend r.send
-  pub receiver : GoodRecv r.recv
-  pub connection : GoodFlow r.conn
-  pub small : r.size ≤ 1200
+  pub sender : GoodSend r.ends.send
+  pub receiver : GoodRecv r.ends.recv
+  pub connection : GoodFlow r.ends.conn
+  pub small : r.ends.size ≤ 1200

@@ -2,18 +2,18 @@
 use Rattle.std.specs.Prelude.{Bool, true, false, not, ◌&&◌, eqb, Option, ℕ, is_none}
 use Rattle.std.specs.List.{list_all}
 use Rattle.refusal.specs.Rules.{is_at}
-use Rattle.carry.specs.declared.run.Frame.{Frame}
+use Rattle.carry.specs.declared.run.Slot.{Slot}
 use Rattle.carry.specs.declared.run.Run.{Run}
 use Rattle.carry.specs.declared.tally.Tally.{Tally}
 use Rattle.carry.specs.declared.tally.Verdict.{Verdict}
 use Rattle.carry.specs.declared.tally.Verdict.TheVariants.{NotWhole, NotEqual, WholeAndEqual}
 
-abbrev pub is_free : Option Frame → Bool
-is_free f = is_none f
+abbrev pub is_free : Slot → Bool
+is_free s = is_none s.frame
 
 -- the stream came to its end: neither input nor output failed, the receiver has handed out all up to the final size, and nothing is in flight
 abbrev pub finished : Run → Bool
-finished r = not r.broken && (is_at r.recv.fin_off r.recv.off && list_all is_free r.frames)
+finished r = not r.ends.broken && (is_at r.ends.recv.fin_off r.ends.recv.off && list_all is_free r.slots)
 
 -- each final size is known, and is the number of bytes on its side; the two are the same
 abbrev pub sizes_agree : Tally → Option ℕ → Option ℕ → Bool

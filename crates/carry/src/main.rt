@@ -4,7 +4,7 @@
 //     carry [seed [loss per mille [repeat per mille [frame size [send arena [receive arena]]]]]] < FILE > COPY
 //
 // The last line on standard error is the verdict: `carry: whole and equal`, or another that begins with `carry: NOT`. The script `carry` at
-// the top of the repository goes by it. Where standard error takes no more, the rest of the text is lost.
+// the top of the repository goes by it. A line that standard error does not take is lost, and the next is tried all the same.
 #![tactic(auto)]
 
 ghost use Rattle.std.specs.Prelude.{◌≤◌};
@@ -18,9 +18,8 @@ mod tally;
 mod text;
 mod window;
 
-use run::Run;
+use run::{Ends, Run};
 use settings::Settings;
-use std::io;
 use std::rt::Clock;
 use text::Grouped;
 use window::Window;
@@ -36,12 +35,12 @@ fn main(rt: HostRuntime) {
 
 // The whole job.
 fn carry(rt: &(impl Input + Print + Eprint + Clock), set: Settings) {
+    // Arrays as long as the largest arena: no heap, so no allocator to ask for the lengths that were chosen.
     let mut send_memory = [0; 65536];
     let mut recv_memory = [0; 65536];
     let send_arena = &mut send_memory[..set.send_arena];
     let recv_arena = &mut recv_memory[..set.recv_arena];
     let mut window = Window::new(piece(set.send_arena, set.frame));
-    let mut slots = [[0; 1200]; 8];
     let mut out = [0; 65536];
     let mut run = Run::new(rt, set, send_arena, recv_arena);
     // A proved loop has to end, so this one counts its rounds, up to a number that no run comes to.
@@ -49,10 +48,10 @@ fn carry(rt: &(impl Input + Print + Eprint + Clock), set: Settings) {
         if !run.goes_on() {
             break;
         }
-        run.outward(rt, &mut window, send_arena, &mut slots);
-        run.inward(rt, recv_arena, &slots, &mut out);
+        run.outward(rt, &mut window, send_arena);
+        run.inward(rt, recv_arena, &mut out);
     }
-    let _ = summary(rt, &run);
+    summary(rt, &run);
 }
 
 // The length of the input window. The chunk of which a part waits for the rest of its frame keeps its room: two windows and a frame fit into
@@ -63,30 +62,33 @@ fn piece(room: usize, size: usize) -> usize
     (room.saturating_sub(size) / 2).clamp(1, 4096)
 }
 
-fn summary(rt: &impl Eprint, run: &Run) -> io::Result<()> {
-    let sender = run.send.fin_off;
-    let receiver = run.recv.fin_off;
+// The closing lines. Each is tried, whatever became of those before it: the verdict above all.
+fn summary(rt: &impl Eprint, run: &Run) {
+    let ends = &run.ends;
+    let sizes = ends.final_sizes();
     let whole = run.is_done();
-    run.tally.table(rt, run.size, sender, receiver, whole)?;
-    if !whole && !run.broken {
-        stall(rt, run)?;
+    ends.tally.table(rt, ends.size, sizes, whole);
+    if !whole && !ends.broken {
+        stall(rt, ends);
     }
-    let verdict = run.tally.verdict(sender, receiver, whole);
-    eprintln!(rt; "carry: {verdict}")
+    let verdict = ends.tally.verdict(sizes, whole);
+    let _ = eprintln!(rt; "carry: {verdict}");
 }
 
 // What a run that did not come to its end waits for, and why in vain.
-fn stall(rt: &impl Eprint, run: &Run) -> io::Result<()> {
-    let byte = Grouped(run.recv.off_front());
-    eprint!(rt; "carry: STALLED: the reader waits for byte {byte}, and ")?;
-    if run.is_stuck() {
-        eprintln!(rt; "all 64 entries of the receive table hold what lies behind it:")?;
-        eprintln!(rt; "carry: each frame that brings it is refused TableFull (6), for ever")?;
+fn stall(rt: &impl Eprint, ends: &Ends) {
+    let byte = Grouped(ends.recv.off_front());
+    let _ = eprint!(rt; "carry: STALLED: the reader waits for byte {byte}, and ");
+    if ends.is_stuck() {
+        let _ = eprintln!(rt; "all 64 entries of the receive table hold what lies behind it:");
+        let _ = eprintln!(rt;
+            "carry: each frame that brings it is refused TableFull (6), for ever"
+        );
     } else {
-        eprintln!(rt; "no byte was handed out in a million rounds")?;
+        let _ = eprintln!(rt; "no byte was handed out in a million rounds");
     }
-    run.tally.refusals.tell_last(rt)?;
-    eprintln!(rt;
+    ends.tally.refusals.tell_last(rt);
+    let _ = eprintln!(rt;
         "carry: docs/OPERATORS.md says how to choose the sizes: the receive arena at most 63 times the frame size"
-    )
+    );
 }

@@ -6,10 +6,9 @@ ghost use Rattle.std.specs.Prelude.{◌<◌};
 
 use crate::text::{Grouped, row};
 use refusal::Refusal;
-use std::io;
 
 // The calls that may be refused.
-#[derive(Clone, Copy, Debug, PartialEq, Eq)]
+#[derive(Clone, Copy)]
 pub enum Call {
     Write,
     Frame,
@@ -29,13 +28,14 @@ struct Met {
 
 #[derive(Clone, Copy)]
 pub struct Refusals {
-    // At each call.
+    // At each call, in the order of `CALLS`: the enum's own number is the place, where a map would need a heap.
     met: [Met; 5],
 }
 
 const CALLS: [Call; 5] = [Call::Write, Call::Frame, Call::Loss, Call::Ack, Call::Other];
 
-// The name and number of each refusal, at its number; none has the number 0.
+// The name and number of each refusal, at its number; none has the number 0. A `match` on the refusal would be no plainer: where counts are
+// told there is no refusal at hand, and two of them have a code beside their number.
 const NAMES: [&str; 11] = [
     "",
     "Offset (1)",
@@ -67,39 +67,35 @@ impl Refusals {
     }
 
     // A line of the closing table for each kind that occurred.
-    pub fn table(&self, rt: &impl Eprint) -> io::Result<()> {
-        for call in CALLS {
-            self.met[call as usize].table(rt, call.plural())?;
+    pub fn table(&self, rt: &impl Eprint) {
+        for (met, call) in self.met.iter().zip(CALLS) {
+            met.table(rt, call.plural());
         }
-        Ok(())
     }
 
     // The last refusal of each call.
-    pub fn tell_last(&self, rt: &impl Eprint) -> io::Result<()> {
-        for call in CALLS {
-            self.met[call as usize].tell_last(rt, call.singular())?;
+    pub fn tell_last(&self, rt: &impl Eprint) {
+        for (met, call) in self.met.iter().zip(CALLS) {
+            met.tell_last(rt, call.singular());
         }
-        Ok(())
     }
 }
 
 impl Met {
-    fn table(&self, rt: &impl Eprint, calls: &str) -> io::Result<()> {
+    fn table(&self, rt: &impl Eprint, calls: &str) {
         for (name, count) in NAMES.iter().zip(self.counts) {
             if count > 0 {
-                row(rt, format_args!("{calls:<16}{name:<16}"), Grouped(count))?;
+                row(rt, format_args!("{calls:<16}{name:<16}"), Grouped(count));
             }
         }
-        Ok(())
     }
 
-    fn tell_last(&self, rt: &impl Eprint, call: &str) -> io::Result<()> {
+    fn tell_last(&self, rt: &impl Eprint, call: &str) {
         if let Some((why, round)) = self.last {
             let name = NAMES[place(why)];
             let round = Grouped(round);
-            eprintln!(rt; "  {call:<26}{name:<16}in round {round}")?;
+            let _ = eprintln!(rt; "  {call:<26}{name:<16}in round {round}");
         }
-        Ok(())
     }
 }
 

@@ -1,7 +1,7 @@
-// A run: the two buffers, the connection's window, the frames in flight, and the dice.
+// A run: the channel's slots with the frames in flight, and its two ends, which are the buffers, the connection's window, and the dice.
 //
 // In each round a frame in flight waits, or comes to the channel's end, where it is lost or arrives; one that arrived may stay, to arrive
-// again. Its numbers are in `frames`, and its bytes at the same place in the slots, which are lent as the arenas are.
+// again.
 //
 // Every frame ends at a multiple of the frame size or at the final size, as docs/OPERATORS.md advises: so with a receive arena of at most 63
 // frames the receive table never fills (crate channel, `ends_suffice`).
@@ -15,21 +15,19 @@ ghost use Rattle.std.specs.Prelude.{◌≡◌, ◌<◌, ◌≤◌};
 ghost use Rattle.send_buf.specs.State.{Good as GoodSend};
 ghost use Rattle.recv_buf.specs.State.{Good as GoodRecv};
 ghost use Rattle.flowcontrol.specs.State.{Good as GoodFlow};
-ghost use Rattle.carry.specs.Props.{good_props};
+ghost use Rattle.send_buf.proofs.Props.{send_props};
+ghost use Rattle.recv_buf.proofs.Props.{recv_props};
 
 use crate::credit;
 use crate::dice::Dice;
 use crate::refusals::Call;
 use crate::settings::Settings;
-use crate::tally::Tally;
+use crate::tally::{FinalSizes, Tally};
 use crate::window::Window;
 use flowcontrol::{FlowControl, lent};
 use recv_buf::RecvBuf;
 use send_buf::SendBuf;
 use std::rt::Clock;
-
-// The room for a frame's bytes.
-pub type Slot = [u8; 1200];
 
 // A frame in flight.
 #[derive(Clone, Copy)]
@@ -43,14 +41,26 @@ pub struct Frame {
     ghost fits: { len ≤ 1200 },
 }
 
+// A place in the channel: a frame in flight, or none where it is free, and the room for its bytes.
+#[derive(Clone, Copy)]
+pub struct Slot {
+    pub frame: Option<Frame>,
+    pub bytes: [u8; 1200],
+}
+
 #[derive(Drop)]
 pub struct Run {
+    pub ends: Ends,
+    pub slots: [Slot; 8],
+}
+
+// The two ends of the channel: the buffers and the connection's window, the dice that are thrown for the frames, and what is counted.
+#[derive(Drop)]
+pub struct Ends {
     pub send: SendBuf,
     pub recv: RecvBuf,
     // The connection's window.
     pub conn: FlowControl,
-    // The channel. A slot with no frame is free.
-    pub frames: [Option<Frame>; 8],
     pub tally: Tally,
     pub dice: Dice,
     // What the dice are held against, per mille.
@@ -65,9 +75,9 @@ pub struct Run {
     // Standard input or output failed.
     pub broken: bool,
     // So each call of the buffers and of the window may be made, and a frame fits a slot.
-    ghost sender: { GoodSend send } by { Prim.hlevel good_props },
-    ghost receiver: { GoodRecv recv } by { Prim.hlevel good_props },
-    ghost connection: { GoodFlow conn } by { Prim.hlevel good_props },
+    ghost sender: { GoodSend send } by { Prim.hlevel send_props },
+    ghost receiver: { GoodRecv recv } by { Prim.hlevel recv_props },
+    ghost connection: { GoodFlow conn },
     ghost some: { 0 < size },
     ghost small: { size ≤ 1200 },
 }
@@ -76,15 +86,77 @@ impl Run {
     ghost use Rattle.std.specs.List.{list_all};
     ghost use Rattle.carry.specs.Verdict.{is_free, finished};
 
-    #[tactic(auto, using(send_buf::proofs::Kept::created_good, recv_buf::proofs::Kept::created_good, flowcontrol::proofs::Kept::created_good))]
     pub fn new(rt: &impl Clock, set: Settings, send_arena: &[u8], recv_arena: &[u8]) -> Run {
+        Run {
+            ends: Ends::new(rt, set, send_arena, recv_arena),
+            slots: [Slot {
+                frame: None,
+                bytes: [0; 1200],
+            }; 8],
+        }
+    }
+
+    // The sender's half of a round: from the input into the channel.
+    pub fn outward(&mut self, rt: &(impl Input + Eprint), window: &mut Window, arena: &mut [u8]) {
+        self.ends.read(rt, window);
+        self.ends.write(arena, window);
+        self.load(arena);
+    }
+
+    // The receiver's half: from the channel to the output.
+    pub fn inward(&mut self, rt: &(impl Print + Eprint + Clock), arena: &mut [u8], out: &mut [u8]) {
+        self.roll(arena);
+        self.ends.hand_out(rt, arena, out);
+        self.ends.grant();
+        self.ends.tally.round(rt);
+    }
+
+    // Is there something left to do, and hope that it gets done?
+    pub fn goes_on(&self) -> bool {
+        self.ends.goes_on() && !self.is_done()
+    }
+
+    // Has the receiver handed out everything, and is nothing in flight?
+    pub fn is_done(&self) -> bool
+        ensures { result ≡ finished self.now }
+    {
+        !self.ends.broken && self.ends.recv.is_fin() && Run::are_free(&self.slots)
+    }
+
+    fn are_free(slots: &[Slot]) -> bool
+        ensures { result ≡ list_all is_free slots.now }
+    {
+        slots.iter().all(|slot| slot.frame.is_none())
+    }
+
+    // Fills the free slots with frames.
+    fn load(&mut self, arena: &[u8]) {
+        for slot in &mut self.slots {
+            if slot.frame.is_none() {
+                slot.frame = self.ends.next_frame(arena, &mut slot.bytes);
+            }
+        }
+    }
+
+    // Throws the dice for each frame in flight.
+    fn roll(&mut self, arena: &mut [u8]) {
+        for slot in &mut self.slots {
+            if let Some(frame) = slot.frame {
+                slot.frame = self.ends.moved(frame, arena, &slot.bytes);
+            }
+        }
+    }
+}
+
+impl Ends {
+    #[tactic(auto, using(send_buf::proofs::Kept::created_good, recv_buf::proofs::Kept::created_good, flowcontrol::proofs::Kept::created_good))]
+    fn new(rt: &impl Clock, set: Settings, send_arena: &[u8], recv_arena: &[u8]) -> Ends {
         let room = recv_arena.len() as u64;
         let limit = room.min(8192);
-        Run {
+        Ends {
             send: SendBuf::new(limit, send_arena).state,
             recv: RecvBuf::new(limit, room, recv_arena).state,
             conn: FlowControl::new(limit, limit, room).state,
-            frames: [None; 8],
             tally: Tally::new(rt),
             dice: Dice::new(set.seed),
             loss: set.loss,
@@ -96,36 +168,9 @@ impl Run {
         }
     }
 
-    // The sender's half of a round: from the input into the channel.
-    pub fn outward(
-        &mut self,
-        rt: &(impl Input + Eprint),
-        window: &mut Window,
-        arena: &mut [u8],
-        slots: &mut [Slot; 8],
-    ) {
-        self.read(rt, window);
-        self.write(arena, window);
-        self.load(arena, slots);
-    }
-
-    // The receiver's half: from the channel to the output.
-    pub fn inward(
-        &mut self,
-        rt: &(impl Print + Eprint + Clock),
-        arena: &mut [u8],
-        slots: &[Slot; 8],
-        out: &mut [u8],
-    ) {
-        self.roll(arena, slots);
-        self.hand_out(rt, arena, out);
-        self.grant();
-        self.tally.round(rt);
-    }
-
-    // Is there something left to do, and hope that it gets done?
-    pub fn goes_on(&self) -> bool {
-        !self.broken && !self.is_stuck() && self.tally.idle <= 1_000_000 && !self.is_done()
+    // Did nothing fail, and is there hope?
+    fn goes_on(&self) -> bool {
+        !self.broken && !self.is_stuck() && self.tally.idle <= 1_000_000
     }
 
     // Has the receive table no entry left for the byte that the reader waits for? Then each frame that brings it is refused TableFull, now
@@ -134,17 +179,14 @@ impl Run {
         self.recv.count >= 64 && !self.recv.ready()
     }
 
-    // Has the receiver handed out everything, and is nothing in flight?
-    pub fn is_done(&self) -> bool
-        ensures { result ≡ finished self.now }
+    pub fn final_sizes(&self) -> FinalSizes
+        ensures sender { result.sender ≡ self.now.send.fin_off }
+        ensures receiver { result.receiver ≡ self.now.recv.fin_off }
     {
-        !self.broken && self.recv.is_fin() && Run::are_free(&self.frames)
-    }
-
-    fn are_free(frames: &[Option<Frame>]) -> bool
-        ensures { result ≡ list_all is_free frames.now }
-    {
-        frames.iter().all(|frame| frame.is_none())
+        FinalSizes {
+            sender: self.send.fin_off,
+            receiver: self.recv.fin_off,
+        }
     }
 
     // ---- the input
@@ -179,25 +221,16 @@ impl Run {
 
     // ---- the channel
 
-    // Fills the free slots with frames.
-    fn load(&mut self, arena: &[u8], slots: &mut [Slot; 8]) {
-        for i in 0..8 {
-            if self.frames[i].is_none() {
-                self.frames[i] = self.next_frame(arena, &mut slots[i]);
-            }
-        }
-    }
-
     // The next frame, or none where a part of it is not written yet, or where it need not be sent: with bytes it must, and without if it
     // carries the mark for the first time.
     #[tactic(auto, using(send_buf::proofs::Kept::emitted_good))]
-    fn next_frame(&mut self, arena: &[u8], slot: &mut Slot) -> Option<Frame> {
+    fn next_frame(&mut self, arena: &[u8], bytes: &mut [u8; 1200]) -> Option<Frame> {
         let off = self.send.off_front();
         let room = self.room_at(off);
         if !self.closed && self.send.off_back().saturating_sub(off) < room as u64 {
             return None;
         }
-        let out = self.send.emit(arena, &mut slot[..room]);
+        let out = self.send.emit(arena, &mut bytes[..room]);
         self.send = out.state;
         match out.answer {
             Ok((n, fin)) if n > 0 || fin && !self.marked => {
@@ -225,30 +258,20 @@ impl Run {
         self.size - (off % self.size as u64) as usize
     }
 
-    // Throws the dice for each frame in flight.
-    fn roll(&mut self, arena: &mut [u8], slots: &[Slot; 8]) {
-        for i in 0..8 {
-            if let Some(frame) = self.frames[i] {
-                self.frames[i] = self.moved(frame, arena, &slots[i]);
-            }
-        }
-    }
-
     // A frame waits, or comes to the channel's end, and is lost there or arrives. What stays of it in flight is the result, here and below.
-    fn moved(&mut self, frame: Frame, arena: &mut [u8], slot: &Slot) -> Option<Frame> {
+    fn moved(&mut self, frame: Frame, arena: &mut [u8], bytes: &[u8; 1200]) -> Option<Frame> {
         if self.dice.per_mille() < 500 {
             return Some(frame);
         }
         if self.dice.per_mille() < self.loss {
             return self.lost(frame);
         }
-        self.delivered(frame, arena, slot)
+        self.delivered(frame, arena, &bytes[..frame.len])
     }
 
     // A frame arrives. One that is refused is as good as lost.
     #[tactic(auto, using(recv_buf::proofs::Kept::written_good))]
-    fn delivered(&mut self, frame: Frame, arena: &mut [u8], slot: &Slot) -> Option<Frame> {
-        let bytes = &slot[..frame.len];
+    fn delivered(&mut self, frame: Frame, arena: &mut [u8], bytes: &[u8]) -> Option<Frame> {
         let out = self.recv.write(arena, frame.off, bytes, frame.fin);
         self.recv = out.state;
         if let Err(why) = out.answer {

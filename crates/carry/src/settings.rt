@@ -25,7 +25,7 @@ pub struct Settings {
 }
 
 // Why the arguments cannot be used.
-#[derive(Clone, Copy, Debug)]
+#[derive(Clone, Copy)]
 pub enum Unusable {
     TooMany,
     NoNumber {
@@ -78,6 +78,7 @@ fn is_given(rt: &impl Env, i: usize) -> bool {
 }
 
 // Argument `i`, if there is one. It must be a number from `low` to `high`, of at most 32 places.
+// The name and the bounds come one by one: as a struct, each of the six calls would spell out its fields, and only one line would gain.
 fn argument(
     rt: &impl Env,
     i: usize,
@@ -100,6 +101,7 @@ fn argument(
 }
 
 // The decimal number that the text is: digits alone. (`parse` would take a plus sign before them.)
+// `vectors` reads its numbers so as well, from words: the two programs share no crate of their own, and one for these lines is no plainer.
 fn number(text: &[u8]) -> Option<u64> {
     if !text.iter().all(|place| place.is_ascii_digit()) {
         return None;

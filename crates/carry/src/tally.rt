@@ -5,15 +5,22 @@ ghost use Rattle.carry.specs.Verdict.{sizes_agree, sums_agree, equal, verdict_of
 use crate::refusals::{Call, Refusals};
 use crate::text::{Grouped, row, yes_or_no};
 use refusal::Refusal;
+use std::fmt;
 use std::fmt::{Display, Formatter};
 use std::rt::Clock;
-use std::{fmt, io};
 
 // The bytes that passed a point: how many, and a checksum.
 #[derive(Clone, Copy)]
 pub struct Passed {
     pub count: u64,
     pub sum: u64,
+}
+
+// The final size as each side knows it.
+#[derive(Clone, Copy)]
+pub struct FinalSizes {
+    pub sender: Option<u64>,
+    pub receiver: Option<u64>,
 }
 
 #[derive(Clone, Copy)]
@@ -33,7 +40,7 @@ pub struct Tally {
     pub told: Option<u64>,
 }
 
-#[derive(Clone, Copy, Debug, PartialEq, Eq)]
+#[derive(Clone, Copy)]
 pub enum Verdict {
     NotWhole,
     NotEqual,
@@ -99,35 +106,28 @@ impl Tally {
     }
 
     // The closing table. `frame` is the frame size; `whole` says that the stream came to its end.
-    pub fn table(
-        &self,
-        rt: &impl Eprint,
-        frame: usize,
-        sender: Option<u64>,
-        receiver: Option<u64>,
-        whole: bool,
-    ) -> io::Result<()> {
-        row(rt, "bytes read", Grouped(self.taken.count))?;
-        row(rt, "bytes handed out", Grouped(self.given.count))?;
-        row(rt, "frame size", Grouped(frame as u64))?;
-        row(rt, "frames sent", Grouped(self.sent))?;
-        row(rt, "frames lost", Grouped(self.lost))?;
-        row(rt, "frames repeated", Grouped(self.repeated))?;
-        self.refusals.table(rt)?;
-        row(rt, "rounds", Grouped(self.rounds))?;
-        size(rt, "final size at the sender", sender)?;
-        size(rt, "final size at the receiver", receiver)?;
-        row(rt, "the stream came to its end", yes_or_no(whole))?;
-        let sizes = self.sizes(sender, receiver);
-        row(rt, "final sizes are the bytes", yes_or_no(sizes))?;
-        row(rt, "checksums are the same", yes_or_no(self.sums()))
+    pub fn table(&self, rt: &impl Eprint, frame: usize, sizes: FinalSizes, whole: bool) {
+        row(rt, "bytes read", Grouped(self.taken.count));
+        row(rt, "bytes handed out", Grouped(self.given.count));
+        row(rt, "frame size", Grouped(frame as u64));
+        row(rt, "frames sent", Grouped(self.sent));
+        row(rt, "frames lost", Grouped(self.lost));
+        row(rt, "frames repeated", Grouped(self.repeated));
+        self.refusals.table(rt);
+        row(rt, "rounds", Grouped(self.rounds));
+        size(rt, "final size at the sender", sizes.sender);
+        size(rt, "final size at the receiver", sizes.receiver);
+        row(rt, "the stream came to its end", yes_or_no(whole));
+        let agree = yes_or_no(self.sizes(sizes));
+        row(rt, "final sizes are the bytes", agree);
+        row(rt, "checksums are the same", yes_or_no(self.sums()));
     }
 
     // The verdict on a run. `whole` says that the stream came to its end.
-    pub fn verdict(&self, sender: Option<u64>, receiver: Option<u64>, whole: bool) -> Verdict
-        ensures { result ≡ verdict_of whole (equal self.now sender receiver) }
+    pub fn verdict(&self, sizes: FinalSizes, whole: bool) -> Verdict
+        ensures { result ≡ verdict_of whole (equal self.now sizes.sender sizes.receiver) }
     {
-        match (whole, self.agree(sender, receiver)) {
+        match (whole, self.agree(sizes)) {
             (false, _) => Verdict::NotWhole,
             (true, false) => Verdict::NotEqual,
             (true, true) => Verdict::WholeAndEqual,
@@ -135,17 +135,17 @@ impl Tally {
     }
 
     // Is each final size known, and the number of bytes on its side, are the two the same, and the checksums?
-    fn agree(&self, sender: Option<u64>, receiver: Option<u64>) -> bool
-        ensures { result ≡ equal self.now sender receiver }
+    fn agree(&self, sizes: FinalSizes) -> bool
+        ensures { result ≡ equal self.now sizes.sender sizes.receiver }
     {
-        self.sizes(sender, receiver) && self.sums()
+        self.sizes(sizes) && self.sums()
     }
 
-    fn sizes(&self, sender: Option<u64>, receiver: Option<u64>) -> bool
-        ensures { result ≡ sizes_agree self.now sender receiver }
+    fn sizes(&self, sizes: FinalSizes) -> bool
+        ensures { result ≡ sizes_agree self.now sizes.sender sizes.receiver }
     {
-        sender == Some(self.taken.count)
-            && receiver == Some(self.given.count)
+        sizes.sender == Some(self.taken.count)
+            && sizes.receiver == Some(self.given.count)
             && self.taken.count == self.given.count
     }
 
@@ -156,7 +156,7 @@ impl Tally {
     }
 }
 
-fn size(rt: &impl Eprint, what: &str, size: Option<u64>) -> io::Result<()> {
+fn size(rt: &impl Eprint, what: &str, size: Option<u64>) {
     match size {
         Some(n) => row(rt, what, Grouped(n)),
         None => row(rt, what, "unknown"),

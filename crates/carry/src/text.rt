@@ -1,6 +1,5 @@
 // Text on standard error: numbers with a comma before each three digits, and the lines of the closing table.
 use std::fmt::{self, Display, Formatter};
-use std::io;
 
 // A number, spelled with the commas.
 #[derive(Clone, Copy)]
@@ -13,7 +12,7 @@ impl Display for Grouped {
     }
 }
 
-// Writes `n` at the end of `width` places, or in as many as it takes.
+// Writes `n` at the end of `width` places, or in as many as it takes. By hand, since the library groups no digits.
 fn spell<W: fmt::Write>(f: &mut Formatter<W>, n: u64, width: usize) -> fmt::Result {
     if n < 1000 {
         return write!(f, "{n:>width$}");
@@ -22,13 +21,9 @@ fn spell<W: fmt::Write>(f: &mut Formatter<W>, n: u64, width: usize) -> fmt::Resu
     write!(f, ",{:03}", n % 1000)
 }
 
-// A line of the table: what, and in the last of its columns how much.
-pub fn row<L: Display + Drop, V: Display + Drop>(
-    rt: &impl Eprint,
-    what: L,
-    value: V,
-) -> io::Result<()> {
-    eprintln!(rt; "  {what:<32}{value:>15}")
+// A line of the table: what, and in the last of its columns how much. One that cannot be written is passed over.
+pub fn row<L: Display + Drop, V: Display + Drop>(rt: &impl Eprint, what: L, value: V) {
+    let _ = eprintln!(rt; "  {what:<32}{value:>15}");
 }
 
 // An answer in the table.

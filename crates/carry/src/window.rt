@@ -1,5 +1,7 @@
 // The input window. It is read into until it is full or the input has ended, and only then written on: a frame waits until all of it is
 // written, and each write takes an entry of the send table, which the few bytes that a pipe gives at a time would use up first.
+//
+// The room is an array with two cursors: `BufReader` takes its room from an allocator, and this program has none.
 ghost use Rattle.std.specs.Prelude.{◌≤◌};
 
 use std::io;

@@ -77,7 +77,7 @@ pub record Seen : Type 0 where
   out : List ℕ
   sent_size : Option ℕ
   got_size : Option ℕ
-  next : (Result (ℕ × Bool) Refusal)  -- what a read with room for a byte answers
+  next : Result (ℕ × Bool) Refusal  -- what a read with room for a byte answers
 
 abbrev pub seen : System → Seen
 seen y = record {

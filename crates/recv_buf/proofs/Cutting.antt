@@ -15,8 +15,13 @@ use Rattle.range_buf.specs.declared.RangeBuf.{RangeBuf}
 use Rattle.range_buf.specs.State.{Good as GoodChunk}
 use Rattle.range_buf.specs.Rules.{used, consumed, zero_buf}
 use Rattle.range_buf.proofs.Kept.{consumed_in}
+use Rattle.recv_buf.specs.declared.RecvBuf.{RecvBuf}
 use Rattle.recv_buf.specs.declared.Reach.{Reach}
+use Rattle.recv_buf.specs.State.{view_of, buf_of, Good}
+use Rattle.recv_buf.specs.Rules.{with_chunks}
 use Rattle.recv_buf.specs.Steps.{put_front, left_at, Fits}
+use Rattle.recv_buf.proofs.Good as good
+use Rattle.recv_buf.proofs.Good.{made, few, chunks_length}
 
 module _ (d : List RangeBuf) (n : ℕ) (t : Table zero_buf n d) (i : ℕ) (le : i ≤ n) where
   whole : d ≡ take n d ++ replicate (64 - n) zero_buf
@@ -83,7 +88,7 @@ module _ (d : List RangeBuf) (n : ℕ) (t : Table zero_buf n d) (at : Reach) (f 
   some_in : at.whole ≤ n
   some_in = rw (view_length zero_buf n d t) at f.whole_in
 
-  pub cut_length : n - at.whole ≡ length (left_at (take n d) at)
+  cut_length : n - at.whole ≡ length (left_at (take n d) at)
   cut_length =
       sym (kept_length d n t at.whole some_in)
       ∙ sym (put_length (used (get_or (take n d) at.whole zero_buf) at.part) (drop at.whole (take n d)))
@@ -92,7 +97,7 @@ module _ (d : List RangeBuf) (n : ℕ) (t : Table zero_buf n d) (at : Reach) (f 
     table : put_mid (n - at.whole) (n - (n - at.whole)) x y ≡ table_of zero_buf (drop at.whole (take n d))
     table = cut_table d n t at.whole some_in x y e z
 
-    pub cut_none : n - at.whole ≤ 0 → put_mid (n - at.whole) (n - (n - at.whole)) x y ≡ table_of zero_buf (left_at (take n d) at)
+    cut_none : n - at.whole ≤ 0 → put_mid (n - at.whole) (n - (n - at.whole)) x y ≡ table_of zero_buf (left_at (take n d) at)
     cut_none h =
         table
         ∙ ap (table_of zero_buf) (sym (put_none (used (get_or (take n d) at.whole zero_buf) at.part) (drop at.whole (take n d)) (omega (arith, kept_length d n t at.whole some_in))))
@@ -104,10 +109,10 @@ module _ (d : List RangeBuf) (n : ℕ) (t : Table zero_buf n d) (at : Reach) (f 
     first_was : 0 < n - at.whole → get_or (put_mid (n - at.whole) (n - (n - at.whole)) x y) 0 zero_buf ≡ get_or (take n d) at.whole zero_buf
     first_was h = ap (λ (l : List RangeBuf). get_or l 0 zero_buf) table ∙ first_is (take n d) at.whole (lt_length h)
 
-    pub cut_good : All GoodChunk (take n d) → 0 < n - at.whole → GoodChunk (get_or (put_mid (n - at.whole) (n - (n - at.whole)) x y) 0 zero_buf)
+    cut_good : All GoodChunk (take n d) → 0 < n - at.whole → GoodChunk (get_or (put_mid (n - at.whole) (n - (n - at.whole)) x y) 0 zero_buf)
     cut_good g h = rw (first_was h) (g at.whole zero_buf (lt_length h))
 
-    pub cut_some : 0 < n - at.whole → (v : Outcome ⊤ RangeBuf) → v ≡ consumed (get_or (put_mid (n - at.whole) (n - (n - at.whole)) x y) 0 zero_buf) at.part
+    cut_some : 0 < n - at.whole → (v : Outcome ⊤ RangeBuf) → v ≡ consumed (get_or (put_mid (n - at.whole) (n - (n - at.whole)) x y) 0 zero_buf) at.part
         → set (put_mid (n - at.whole) (n - (n - at.whole)) x y) 0 v.state ≡ table_of zero_buf (left_at (take n d) at)
     cut_some h v w =
         let u : v.state ≡ used (get_or (take n d) at.whole zero_buf) at.part =
@@ -115,6 +120,28 @@ module _ (d : List RangeBuf) (n : ℕ) (t : Table zero_buf n d) (at : Reach) (f 
         rw (table, u)
         (put_table (used (get_or (take n d) at.whole zero_buf) at.part) (drop at.whole (take n d)) (omega (arith, kept_length d n t at.whole some_in)))
 
+-- ---- of a buffer
+
+module _ (b : RecvBuf) (g : Good b) (at : Reach) (f : Fits (view_of b).chunks at) (x y : List RangeBuf) (e : x ≡ copy_within b.«data» at.whole b.count 0)
+    (z : y ≡ replicate (length (take (b.count - (b.count - at.whole)) (drop (b.count - at.whole) x))) zero_buf) where
+  cut_buf : (d : List RangeBuf) → d ≡ table_of zero_buf (left_at (view_of b).chunks at)
+      → ◌≡◌ {A = RecvBuf} (record { «data» = d; count = b.count - at.whole; off = b.off; len = b.len; flow_control = b.flow_control; fin_off = b.fin_off; error = b.error; drain = b.drain; arena_len = b.arena_len })
+      (buf_of (with_chunks (view_of b) (left_at (view_of b).chunks at)))
+  cut_buf d k = made (with_chunks (view_of b) (left_at (view_of b).chunks at)) d (b.count - at.whole) k (cut_length b.«data» b.count (good.table b g) at f)
+
+  pub cut_whole : b.count - at.whole ≤ 0
+      → ◌≡◌ {A = RecvBuf} (record { «data» = put_mid (b.count - at.whole) (b.count - (b.count - at.whole)) x y; count = b.count - at.whole; off = b.off; len = b.len; flow_control = b.flow_control; fin_off = b.fin_off; error = b.error; drain = b.drain; arena_len = b.arena_len })
+      (buf_of (with_chunks (view_of b) (left_at (view_of b).chunks at)))
+  cut_whole h = cut_buf _ (cut_none b.«data» b.count (good.table b g) at f x y e z h)
+
+  pub first_good : 0 < b.count - at.whole → GoodChunk (get_or (put_mid (b.count - at.whole) (b.count - (b.count - at.whole)) x y) 0 zero_buf)
+  first_good h = cut_good b.«data» b.count (good.table b g) at f x y e z (good.all_good b.off (view_of b).chunks (good.apart b g)) h
+
+  pub cut_part : 0 < b.count - at.whole → (v : Outcome ⊤ RangeBuf) → v ≡ consumed (get_or (put_mid (b.count - at.whole) (b.count - (b.count - at.whole)) x y) 0 zero_buf) at.part
+      → ◌≡◌ {A = RecvBuf} (record { «data» = set (put_mid (b.count - at.whole) (b.count - (b.count - at.whole)) x y) 0 v.state; count = b.count - at.whole; off = b.off; len = b.len; flow_control = b.flow_control; fin_off = b.fin_off; error = b.error; drain = b.drain; arena_len = b.arena_len })
+      (buf_of (with_chunks (view_of b) (left_at (view_of b).chunks at)))
+  cut_part h v w = cut_buf _ (cut_some b.«data» b.count (good.table b g) at f x y e z h v w)
+
 -- ---- for `cut`
 
-pub ruleset cuts = (cut_length, cut_none, cut_good, cut_some)
+pub ruleset cuts = (few, chunks_length, cut_whole, first_good, cut_part)

@@ -2,7 +2,7 @@
 use Rattle.std.specs.List.{list_any}
 use Rattle.std.proofs.lemmas.List.{drop_more}
 use mathlib.Core.Path.{◌≡◌, refl, sym, ap, ◌∙◌}
-use mathlib.Core.Bool.{Bool, true, false, cond, not, ◌&&◌, false≢true}
+use mathlib.Core.Bool.{true, false, cond, ◌&&◌, false≢true}
 use mathlib.Core.List.{List, [], ◌∷◌, ◌++◌}
 use Prim.Native.Nat.{ℕ, ◌+◌, ◌≤◌, ◌<◌, min, max}
 use native.Mathlib.Omega.{arith}
@@ -11,17 +11,15 @@ use lib.Dec.{ltb, eqb}
 use lib.ListN.{length, drop, get_or, drop_of_length-le}
 use Rattle.tables.proofs.Tables.{cases, by_test}
 use Rattle.tables.proofs.Tests.{and_true}
-use Rattle.refusal.specs.Rules.{known}
 use Rattle.range_buf.specs.declared.RangeBuf.{RangeBuf}
 use Rattle.range_buf.specs.State.{Good as GoodChunk}
 use Rattle.range_buf.specs.Rules.{start, end, avail, is_empty, fresh, zero_buf}
 use Rattle.recv_buf.specs.declared.RecvBuf.{RecvBuf}
-use Rattle.recv_buf.specs.declared.Entries.{Entries}
-use Rattle.recv_buf.specs.State.{Recv, view_of, Chain, Within, Good}
-use Rattle.recv_buf.specs.Rules.{run, filled, marked_at, chunks_after}
+use Rattle.recv_buf.specs.State.{view_of, Chain, Within, Good}
+use Rattle.recv_buf.specs.Rules.{run, filled, marked_at}
 use Rattle.recv_buf.specs.Steps.{listed, pushed_all}
 use Rattle.recv_buf.proofs.Lists.{within_weaken}
-use Rattle.recv_buf.proofs.Pushing.{push_all, push_listed, push_none, push_run, none_count, listed_count}
+use Rattle.recv_buf.proofs.Pushing.{push_all, push_listed, push_none, push_run}
 use Rattle.recv_buf.proofs.Good.{chunk_good}
 
 -- ---- the mark
@@ -41,7 +39,7 @@ marked_new (c ∷ cs) f e =
 -- ---- a step of the runs
 
 -- no bytes came: the chunks stay
-filled_none : (cs : List RangeBuf) (lo hi : ℕ) → hi ≤ lo → filled cs lo hi ≡ cs
+pub filled_none : (cs : List RangeBuf) (lo hi : ℕ) → hi ≤ lo → filled cs lo hi ≡ cs
 filled_none [] lo hi h = rw (le-ltb lo hi h)
 filled_none (c ∷ cs) lo hi h =
     cases (start c) hi
@@ -92,31 +90,6 @@ filled_behind (c ∷ cs) low lo hi k w =
     (λ le. let h : hi ≤ lo = omega (arith, w.0, k.1) in rw (filled_none cs (max lo (end c)) hi (omega arith), le-leb hi (start c) le, le-ltb lo hi h)) in
     first ∙ rw m (ap (λ (l : List RangeBuf). c ∷ l) (filled_behind cs (end c) lo hi k.2 w.1))
 
--- ---- the chunks after a frame
-
-module _ (r : Recv) (s n : ℕ) (fin : Bool) where
-  -- a mark without bytes that is the first to set the final size
-  pub after_mark : (eqb n 0 && (not (known r.fin) && fin)) ≡ true → marked_at r.chunks s ≡ chunks_after r s n fin
-  after_mark e =
-      let p = and_true (eqb n 0) (not (known r.fin) && fin) e in
-      rw (p.0, p.1)
-
-  -- any other frame; one without bytes fills nothing
-  after_bytes : (eqb n 0 && (not (known r.fin) && fin)) ≡ false → filled r.chunks (max s r.off) (s + n) ≡ chunks_after r s n fin
-  after_bytes e =
-      by_test (eqb n 0)
-      (λ y.
-      let k : (not (known r.fin) && fin) ≡ false = rw y at e in
-      let z = eqb-true n 0 y in
-      filled_none r.chunks (max s r.off) (s + n) (omega (arith, z)) ∙ rw (y, k))
-      (λ x. rw x)
-
-  pub lists_bytes : (t : Entries) (lo : ℕ) → (eqb n 0 && (not (known r.fin) && fin)) ≡ false → lo ≡ max s r.off → t ≡ listed (filled r.chunks lo (s + n))
-      → (t ≡ listed (chunks_after r s n fin)) × (t.count ≡ length (chunks_after r s n fin))
-  lists_bytes t lo e m k =
-      let l : t ≡ listed (chunks_after r s n fin) = k ∙ ap listed (ap (λ (x : ℕ). filled r.chunks x (s + n)) m ∙ after_bytes e) in
-      (l, listed_count t (chunks_after r s n fin) l)
-
 -- ---- the chunks from index i on
 
 module _ (cs : List RangeBuf) (i lo hi : ℕ) where
@@ -143,6 +116,6 @@ fills_behind b g lo hi h =
 
 pub ruleset marks = (marked_there, marked_new, push_listed)
 
-pub ruleset fills = (chunk_good, none_count, push_none, push_run, fills_behind, fills_end, fills_goes, fills_stays)
+pub ruleset fills = (chunk_good, push_none, push_run, fills_behind, fills_end, fills_goes, fills_stays)
 
-pub ruleset lists = (after_mark, listed_count)
+pub ruleset lists = (filled_none)

@@ -1,5 +1,4 @@
 -- A table in the making: entry by entry it becomes the table of its list. Assumes nothing.
-use Rattle.std.proofs.lemmas.List.{drop-replicate}
 use mathlib.Core.Path.{◌≡◌, refl, sym, ap, ◌∙◌}
 use mathlib.Core.Bool.{cond}
 use mathlib.Core.List.{List, [], ◌∷◌, ◌++◌, append_assoc, append-nil}
@@ -7,7 +6,7 @@ use Prim.Native.Nat.{ℕ, suc, ◌+◌, ◌-◌, ◌≤◌}
 use native.Mathlib.Omega.{arith}
 use borrow.Author.Tests.{lt-ltb, le-ltb}
 use lib.Dec.{ltb}
-use lib.ListN.{length, take, drop, set, replicate, length-append, length-replicate}
+use lib.ListN.{length, take, set, replicate, length-append, length-replicate}
 use lib.Seq.{take_all, take-append-le}
 use Rattle.tables.specs.Lists.{table_of}
 use Rattle.tables.proofs.Tables.{cases, by_test}
@@ -24,11 +23,10 @@ use Rattle.recv_buf.proofs.Good.{made}
 pub stored : (l : List RangeBuf) → length l ≤ 64 → take 64 (table_of zero_buf l) ≡ table_of zero_buf l
 stored l h = take_all 64 (table_of zero_buf l) (simp (length-append, length-replicate) (omega arith))
 
--- a list copied over the front of a table without entries
-pub copied : (t : Entries) (l m : List RangeBuf) → t ≡ listed [] → length l ≤ 64 → m ≡ l
-    → ◌≡◌ {A = Entries} (record { «data» = m ++ drop (length l) t.«data»; count = length l }) (listed l)
-unfolding listed
-copied t l m n h e = rw (e, ap (λ (x : Entries). x.«data») n, stored l h, drop-replicate (length l) 64 zero_buf) refl
+-- the table of a list that fits it
+pub copied : (l m : List RangeBuf) → length l ≤ 64 → m ≡ table_of zero_buf (take 64 l)
+    → ◌≡◌ {A = Entries} (record { «data» = m; count = length l }) (listed l)
+copied l m h e = rw (e, take_all 64 l h, stored l h) refl
 
 -- one entry more where there is a place for it: it takes the place of the first zero
 store_more : (l : List RangeBuf) (c : RangeBuf) (n : ℕ) → 64 - length l ≡ suc n
@@ -44,7 +42,6 @@ snoc_length l c = length-append l (c ∷ [])
 
 -- one entry more
 pub push_listed : (l : List RangeBuf) (c : RangeBuf) → pushed (listed l) c ≡ listed (l ++ (c ∷ []))
-unfolding listed pushed
 push_listed l c =
     let m : length l + 1 ≡ length (l ++ (c ∷ [])) = sym (snoc_length l c) in
     cases (length l) 64
@@ -69,10 +66,6 @@ push_all l [] = ap listed (sym (append-nil l))
 push_all l (c ∷ cs) =
     ap (λ (t : Entries). pushed_all t cs) (push_listed l c) ∙ push_all (l ++ (c ∷ [])) cs ∙ ap listed (append_assoc l (c ∷ []) cs)
 
-pub none_count : (t : Entries) → t ≡ listed [] → t.count ≡ 0
-unfolding listed
-none_count t e = ap (λ (x : Entries). x.count) e
-
 pub push_none : (t : Entries) (cs : List RangeBuf) → t ≡ listed [] → pushed_all t cs ≡ listed cs
 push_none t cs e = rw e (push_all [] cs)
 
@@ -80,13 +73,8 @@ push_none t cs e = rw e (push_all [] cs)
 pub push_run : (t : Entries) (lo hi : ℕ) (cs : List RangeBuf) → pushed_all t (run lo hi cs) ≡ pushed_all (pushed_all t (run lo hi [])) cs
 push_run t lo hi cs = by_test (ltb lo hi) (λ y. rw y) (λ n. rw n)
 
-pub listed_count : (t : Entries) (l : List RangeBuf) → t ≡ listed l → t.count ≡ length l
-unfolding listed
-listed_count t l e = ap (λ (x : Entries). x.count) e
-
 -- the buffer whose table is made of its chunks
 pub made_of : (r : Recv) (t : Entries) → t ≡ listed r.chunks → length r.chunks ≤ 64
     → ◌≡◌ {A = RecvBuf} (record { «data» = t.«data»; count = t.count; off = r.off; len = r.len; flow_control = r.flow; fin_off = r.fin; error = r.error; drain = r.drain; arena_len = r.room }) (buf_of r)
-unfolding listed
 made_of r t e h =
     made r t.«data» t.count (ap (λ (x : Entries). x.«data») e ∙ stored r.chunks h) (ap (λ (x : Entries). x.count) e)

@@ -101,7 +101,7 @@ module _ (cs : List RangeBuf) (i reached : ℕ) where
       → adjoining (drop i cs) reached ≡ avail (get_or cs i zero_buf) + adjoining (drop (i + 1) cs) (end (get_or cs i zero_buf))
   adjoining_more h e = rw (drop_more cs i zero_buf h, eq-eqb (start (get_or cs i zero_buf)) reached e)
 
--- ---- for `Reach::of` and `adjoining`
+-- ---- for `reach` and `adjoining`
 
 pub ruleset takes = (chunk_good, put_same, put_at, taken_end, left_end, taken_full, left_full, taken_apart, left_apart, taken_part, left_part, taken_whole, left_whole)
 

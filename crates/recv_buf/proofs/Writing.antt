@@ -5,13 +5,11 @@ use mathlib.Core.Bool.{Bool, true, false, cond}
 use mathlib.Core.List.{List, [], ◌∷◌}
 use Prim.Native.Nat.{ℕ, ◌+◌, ◌≤◌}
 use native.Mathlib.Omega.{arith}
-use borrow.Author.Tests.{ltb-false}
 use lib.Dec.{ltb}
 use lib.ListN.{length}
 use Rattle.refusal.specs.declared.Refusal.{Refusal}
 use Rattle.refusal.specs.declared.Refusal.TheVariants.{Offset, FinalSize, FlowControl as OverLimit, NoRoom, TableFull, BadSetup}
 use Rattle.refusal.specs.Rules.{M, after}
-use Rattle.refusal.proofs.Chain.{passes}
 use Rattle.range_buf.specs.declared.RangeBuf.{RangeBuf}
 use Rattle.recv_buf.specs.declared.RecvBuf.{RecvBuf}
 use Rattle.recv_buf.specs.declared.Entries.{Entries}
@@ -42,13 +40,6 @@ module _ (r : Recv) (a s n : ℕ) (fin : Bool) where
   pub judged_passed : frame_judged r a s n fin ≡ Ok tt → write_judged r a s n fin ≡ cond (no_entry r s n fin) (Err TableFull) (Ok tt)
   judged_passed e = judged_then ∙ rw e
 
-  -- an accepted frame ends at or below M
-  pub frame_in : frame_judged r a s n fin ≡ Ok tt → s + n ≤ M
-  unfolding frame_judged
-  frame_in e =
-      let p = passes (other_arena r a) BadSetup _ e in
-      ltb-false M (s + n) (passes (ltb M (s + n)) Offset _ p.1).0
-
 -- no bytes change nothing of the arena
 kept_none : (r : Recv) (ar : List ℕ) (s : ℕ) (bytes : List ℕ) → length bytes ≡ 0 → kept_new r ar s bytes ≡ ar
 kept_none r ar s [] e = refl
@@ -66,4 +57,4 @@ grown_lem b t l len fin e h = made_of (with_ends (with_chunks (view_of b) l) b.o
 
 -- ---- for `write`
 
-pub ruleset writes = (judged_refused, judged_passed, frame_in, no_bytes, grown_lem)
+pub ruleset writes = (judged_refused, judged_passed, no_bytes, grown_lem)

@@ -16,11 +16,11 @@ use Rattle.recv_buf.specs.Rules.{other_arena, passes_final, no_room, taken, left
 -- ---- a table in the making
 
 -- the entries of l: the first 64 are stored, and past them only the count grows
-unfoldable pub listed : List RangeBuf → Entries
+abbrev pub listed : List RangeBuf → Entries
 listed l = record { «data» = take 64 (table_of zero_buf l); count = length l }
 
 -- one entry more, and a list of them
-unfoldable pub pushed : Entries → RangeBuf → Entries
+abbrev pub pushed : Entries → RangeBuf → Entries
 pushed t c = record { «data» = cond (ltb t.count 64) (set t.«data» t.count c) t.«data»; count = t.count + 1 }
 
 abbrev pub pushed_all : Entries → List RangeBuf → Entries

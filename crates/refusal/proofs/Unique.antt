@@ -1,12 +1,12 @@
 -- The contracts determine each number and code: no second one satisfies them. Assumes nothing.
-use Rattle.std.specs.Prelude.{Result, Option, ⊤}
+use Rattle.std.specs.Prelude.{List, Result, Option, ⊤}
 use mathlib.Core.Path.{◌≡◌}
 use mathlib.Core.Bool.{Bool}
 use Prim.Native.Nat.{ℕ, ◌+◌}
 use lib.Dec.{ltb}
 use Rattle.tables.proofs.Tables.{no_second}
 use Rattle.refusal.specs.declared.Refusal.{Refusal}
-use Rattle.refusal.specs.Rules.{M, number_of, code_of, Told, with_count, with_bytes, with_sizes, known, is_at, is_other}
+use Rattle.refusal.specs.Rules.{M, number_of, code_of, Told, first_two, with_count, with_bytes, with_sizes, known, is_at, is_other}
 
 pub number_unique : (r : Refusal) (p q : ℕ) → p ≡ number_of r → q ≡ number_of r → p ≡ q
 number_unique r = no_second
@@ -17,6 +17,9 @@ code_unique r = no_second
 -- of every kind of answer
 pub told_unique : (t : Told) (p q : ℕ) → p ≡ t.number → q ≡ t.number → p ≡ q
 told_unique t = no_second
+
+pub first_two_unique : (values : List ℕ) (p q : ℕ × ℕ) → p ≡ first_two values → q ≡ first_two values → p ≡ q
+first_two_unique values = no_second
 
 pub with_count_unique : (a : Result ⊤ Refusal) (n : ℕ) (p q : Result ℕ Refusal) → p ≡ with_count a n → q ≡ with_count a n → p ≡ q
 with_count_unique a n = no_second

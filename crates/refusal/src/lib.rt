@@ -33,7 +33,7 @@ pub struct Outcome<T, S> {
     pub state: S,
 }
 
-// What a success tells, as numbers: nothing, a count, a count and an end mark, two sizes.
+// What a success tells, as numbers: nothing, a count, a count and an end mark, two sizes. C has two places for them.
 pub trait Values: Copy {
     ghost values: { Self → List ℕ };
 
@@ -75,7 +75,7 @@ impl Values for (u64, u64) {
 }
 
 impl Refusal {
-    // The refusal's number (RULES 2.1).
+    // The refusal's number, which the rules promise (RULES 2.1): written out, so that each can be read off here.
     pub fn number(self) -> u64
         ensures { result ≡ number_of self }
     {
@@ -119,5 +119,12 @@ pub fn number<T: Values>(answer: Result<T, Refusal>) -> u64
 pub fn above_m(a: u64, b: u64) -> bool
     ensures { result ≡ ltb M (a + b) }
 {
-    M < a || M - a < b
+    passes(a, b, M)
+}
+
+// Does the whole sum of two numbers pass `top`?
+pub fn passes(a: u64, b: u64, top: u64) -> bool
+    ensures { result ≡ ltb top (a + b) }
+{
+    top < a || top - a < b
 }

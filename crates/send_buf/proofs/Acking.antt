@@ -33,7 +33,7 @@ module _ (x : Range) (l : List Range) (ok : x.start ≤ x.end) where
   tried_room : needs_room 64 x l ≡ false → tried (set_of 64 l) x ≡ record { answer = Ok tt; state = set_of 64 (placed x l) }
   tried_room e = simp (ranges_of 64 l, le-ltb _ _ ok, e)
 
-  -- the set says (Ok tt): there is room, and the range is placed
+  -- the set says Ok: there is room, and the range is placed
   pub joined : (o : Outcome ⊤ RangeSet) → o ≡ tried (set_of 64 l) x → o.answer ≡ Ok tt → (needs_room 64 x l ≡ false) × (o.state ≡ set_of 64 (placed x l))
   joined o e d =
       by_test (needs_room 64 x l)
@@ -47,7 +47,7 @@ module _ (x : Range) (l : List Range) (ok : x.start ≤ x.end) where
       (λ t. let f : Err why ≡ Err TableFull = sym d ∙ ap (λ (q : Outcome ⊤ RangeSet). q.answer) (e ∙ tried_full t) in (t, cc))
       (λ t. let f : Err why ≡ Ok tt = sym d ∙ ap (λ (q : Outcome ⊤ RangeSet). q.answer) (e ∙ tried_room t) in absurd (cc))
 
-  -- where there is room, it says (Ok tt)
+  -- where there is room, it says Ok
   pub does_join : (o : Outcome ⊤ RangeSet) → o ≡ tried (set_of 64 l) x → needs_room 64 x l ≡ false → o.answer ≡ Ok tt
   does_join o e t = ap (λ (q : Outcome ⊤ RangeSet). q.answer) (e ∙ tried_room t)
 

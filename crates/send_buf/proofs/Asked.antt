@@ -1,32 +1,18 @@
 -- What the getters find: the lowest acked range, and the first chunk that still holds bytes. Assumes nothing.
-use Rattle.std.specs.Prelude.{Some, None}
-use Prim.Native.Nat.{◌+◌, ◌<◌, ◌≤◌, suc, ℕ}
+use Prim.Native.Nat.{◌+◌, ◌<◌, ◌≤◌, ℕ}
 use Rattle.range_buf.specs.Rules.{avail, start, zero_buf}
 use Rattle.range_buf.specs.declared.RangeBuf.{RangeBuf}
-use Rattle.ranges.specs.Rules.{range_at}
-use Rattle.ranges.specs.declared.Range.{Range}
 use Rattle.send_buf.proofs.Good.{done, next}
-use Rattle.send_buf.specs.Rules.{ack_off, first, front, front_of, skipped}
+use Rattle.send_buf.specs.Rules.{first, front, front_of, skipped}
 use Rattle.send_buf.specs.State.{Good, view_of}
 use Rattle.send_buf.specs.declared.SendBuf.{SendBuf}
 use Rattle.tables.proofs.Tables.{cases}
 use borrow.Author.Tests.{le-ltb, lt-ltb}
-use lib.Dec.{eqb}
-use lib.ListN.{drop, get_or, length}
+use lib.ListN.{drop, get_or}
 use lib.Seq.{drop-drop}
-use mathlib.Core.Bool.{cond}
 use mathlib.Core.List.{List, [], ◌∷◌}
-use mathlib.Core.Path.{◌∙◌, ◌≡◌, ap, refl}
+use mathlib.Core.Path.{◌∙◌, ◌≡◌, refl}
 use native.Mathlib.Omega.{arith}
-
--- contiguous ack by the lowest range
-pub ack_none : (l : List Range) → range_at 0 l ≡ None → ack_off l ≡ 0
-ack_none [] e = refl
-ack_none (r ∷ rs) e = let h : Some r ≡ None = simp (lt-ltb 0 (suc (length rs)) (omega arith)) at e in let z : ◌≡◌ {A = ℕ} 0 1 = cc in absurd (omega arith)
-
-pub ack_some : (l : List Range) (r : Range) → range_at 0 l ≡ Some r → ack_off l ≡ cond (eqb r.start 0) r.end 0
-ack_some [] r e = let z : ◌≡◌ {A = ℕ} 0 1 = cc in absurd (omega arith)
-ack_some (q ∷ rs) r e = let k : Some q ≡ Some r = simp (lt-ltb 0 (suc (length rs)) (omega arith)) at e in let h : q ≡ r = cc in ap (λ (x : Range). cond (eqb x.start 0) x.end 0) h
 
 -- the front offset by what is left at the first chunk that still holds bytes
 pub front_none : (l : List RangeBuf) (off : ℕ) → drop (skipped l) l ≡ [] → front_of l off ≡ off

@@ -72,7 +72,7 @@ not_dropped s a n o e why h =
 pub still_good : (b : SendBuf) → Good b → (a n : ℕ) (o : Outcome ⊤ SendBuf) → o ≡ acks (view_of b) a n → Good o.state
 still_good b g a n o e = rw e (acks_good (view_of b) g.facts a n)
 
--- the ack said (Ok tt): the buffer after it holds what is acked more
+-- the ack said Ok: the buffer after it holds what is acked more
 pub acked_view : (s : Send) (a n : ℕ) (o : Outcome ⊤ SendBuf) → o ≡ acks s a n → o.answer ≡ Ok tt → view_of o.state ≡ acked_more s a n
 unfolding acks
 acked_view s a n o e d =

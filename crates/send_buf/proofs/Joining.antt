@@ -15,7 +15,6 @@ use Rattle.tables.proofs.Tables.{cases, cond_elim, by_test}
 use Rattle.tables.proofs.Tests.{and-false, either, decided, undecided}
 use Rattle.send_buf.specs.State.{base, Adjoin, total, Spent, Used}
 use Rattle.send_buf.specs.Rules.{cut, pieces, stays, both, joined_to, joined, tabled, tabled_pos}
-use Rattle.send_buf.specs.Steps.{grown_by, grown_last}
 use Rattle.send_buf.proofs.Chunks.{adj_at, adj_base}
 
 spent_none : (n : ℕ) (cs : List RangeBuf) → n ≡ 0 → Spent n cs
@@ -79,6 +78,15 @@ length_joined [] = omega arith
 length_joined (c ∷ cs) = omega (arith, length_joined_to c (joined cs), length_joined cs)
 
 -- ---- bytes never sent join what is before them
+
+-- k bytes more, none of which was sent, join the last chunk
+abbrev pub grown_by : RangeBuf → ℕ → RangeBuf
+grown_by c k = record { off = c.off; len = c.len + k; pos = c.pos }
+
+abbrev pub grown_last : List RangeBuf → ℕ → List RangeBuf
+grown_last [] k = []
+grown_last (c ∷ []) k = grown_by c k ∷ []
+grown_last (c ∷ d ∷ ds) k = c ∷ grown_last (d ∷ ds) k
 
 pub joined_cut : (m o n : ℕ) → 0 < n → n ≤ 4096 * m → 4096 * m < n + 4096 → joined (cut m o n) ≡ fresh o n ∷ []
 joined_cut zero o n h a b = absurd (omega arith)

@@ -87,10 +87,3 @@ module _ {A : Type 0} (z : A) (n : ℕ) (xs : List A) (t : Table z n xs) where
       let lv : 64 - length (f ++ v ∷ l) ≡ 64 - suc n = simp length-append (omega (arith, e, ll)) in
       ap (λ (y : List A). set y i v) whole ∙ ap (λ (j : ℕ). set (f ++ x ∷ (l ++ r)) j v) (sym e) ∙ set-append_seam f x (l ++ r) v
       ∙ sym (append_assoc f (v ∷ l) r) ∙ ap (λ (j : ℕ). (f ++ v ∷ l) ++ replicate j z) (sym lv)
-
-  -- the table without its first i entries
-  pub front_gone : (i : ℕ) → i ≤ n → take (n - i) (drop i xs) ++ drop (n - i) (replicate 64 z) ≡ table_of z (drop i (take n xs))
-  front_gone i h =
-      let moved : take (n - i) (drop i xs) ≡ drop i (take n xs) = sym (drop-take i (n - i) xs) ∙ ap (λ (j : ℕ). drop i (take j xs)) (omega arith) in
-      let m : 64 - (n - i) ≡ 64 - length (drop i (take n xs)) = simp length-drop (omega (arith, long)) in
-      ap₂ (λ (y w : List A). y ++ w) moved (drop-replicate (n - i) 64 z ∙ ap (λ (j : ℕ). replicate j z) m)

@@ -19,7 +19,7 @@ use Rattle.refusal.specs.Rules.{M}
 use Rattle.range_buf.specs.declared.RangeBuf.{RangeBuf}
 use Rattle.range_buf.specs.Rules.{end, avail, fresh, zero_buf}
 use Rattle.tables.specs.Lists.{Table, table_of}
-use Rattle.tables.proofs.Tables.{by_test, cond_elim, table_of_lem, view_length, view_of_lem, entry as table_entry}
+use Rattle.tables.proofs.Tables.{by_test, cond_elim, view_length, view_of_lem, entry as table_entry}
 use Rattle.tables.proofs.Tests.{and_true, either, decided, undecided}
 use Rattle.send_buf.specs.State.{base, buf_of, view_of, Adjoin, Good}
 use Rattle.send_buf.specs.Rules.{stays, both, cut, joined_to, joined, longer, pieces, with_queue}
@@ -254,18 +254,9 @@ placed b n xs l p =
     let m : n ≡ length l = sym (view_length zero_buf n xs p.1) ∙ ap length p.0 in
     ((λ j. record b { «data» = d j; count = m j }), omega (arith, m, p.1.few))
 
-pub its_own : (b : SendBuf) → Table zero_buf b.count b.«data» → (b ≡ with_chunks b (chunks_of b)) × (length (chunks_of b) ≤ 64)
-its_own b t = placed b b.count b.«data» (chunks_of b) (refl, t)
-
-pub nothing_placed : length {A = RangeBuf} [] ≤ 64
-nothing_placed = omega arith
-
 module _ (b s : SendBuf) (l : List RangeBuf) (e : s ≡ with_chunks b l) where
   pub chunks_with : chunks_of s ≡ l
   chunks_with = ap chunks_of e ∙ view_of_lem zero_buf l
-
-  pub table_with : length l ≤ 64 → Table zero_buf s.count s.«data»
-  table_with h = subst (λ (x : SendBuf). Table zero_buf x.count x.«data») (sym e) (table_of_lem zero_buf l h)
 
   -- and others again
   pub with_again : (t : SendBuf) (m : List RangeBuf) → t ≡ with_chunks s m → t ≡ with_chunks b m
@@ -288,7 +279,7 @@ module _ (b : SendBuf) (g : Good b) (l : List RangeBuf) (m : ℕ) where
 
 -- ---- a write that joins
 
-module _ (b : SendBuf) (g : Good b) (k : ℕ) (n : ℕ) (a : Admits (view_of b) n k) (h : 64 < length (view_of b).chunks + pieces k) where
+module _ (b : SendBuf) (g : Good b) (k : ℕ) (a : Admits (view_of b) k) (h : 64 < length (view_of b).chunks + pieces k) where
   -- the new bytes in one chunk: joined to the others, they come to the same as in chunks of their own
   longer_joined : joined ((view_of b).chunks ++ (fresh b.off k ∷ [])) ≡ joined (longer (view_of b) k)
   longer_joined =

@@ -36,105 +36,27 @@ ack_off (r ∷ rs) = cond (eqb r.start 0) r.end 0
 
 -- other chunks, send position and bytes to send
 abbrev pub with_queue : Send → List RangeBuf → ℕ → ℕ → Send
-with_queue s chunks pos buffered = record {
-  room = s.room;
-  chunks = chunks;
-  pos = pos;
-  off = s.off;
-  emitted = s.emitted;
-  buffered = buffered;
-  limit = s.limit;
-  blocked = s.blocked;
-  fin = s.fin;
-  shut = s.shut;
-  acked = s.acked;
-  error = s.error;
-}
+with_queue s chunks pos buffered = record s { chunks = chunks; pos = pos; buffered = buffered }
 
 -- another end and final size
 abbrev pub with_end : Send → ℕ → Option ℕ → Send
-with_end s off fin = record {
-  room = s.room;
-  chunks = s.chunks;
-  pos = s.pos;
-  off = off;
-  emitted = s.emitted;
-  buffered = s.buffered;
-  limit = s.limit;
-  blocked = s.blocked;
-  fin = fin;
-  shut = s.shut;
-  acked = s.acked;
-  error = s.error;
-}
+with_end s off fin = record s { off = off; fin = fin }
 
 -- another largest emitted offset
 abbrev pub with_emitted : Send → ℕ → Send
-with_emitted s emitted = record {
-  room = s.room;
-  chunks = s.chunks;
-  pos = s.pos;
-  off = s.off;
-  emitted = emitted;
-  buffered = s.buffered;
-  limit = s.limit;
-  blocked = s.blocked;
-  fin = s.fin;
-  shut = s.shut;
-  acked = s.acked;
-  error = s.error;
-}
+with_emitted s emitted = record s { emitted = emitted }
 
 -- another acked set
 abbrev pub with_acked : Send → List Range → Send
-with_acked s acked = record {
-  room = s.room;
-  chunks = s.chunks;
-  pos = s.pos;
-  off = s.off;
-  emitted = s.emitted;
-  buffered = s.buffered;
-  limit = s.limit;
-  blocked = s.blocked;
-  fin = s.fin;
-  shut = s.shut;
-  acked = acked;
-  error = s.error;
-}
+with_acked s acked = record s { acked = acked }
 
 -- another limit and blocked offset
 abbrev pub with_limit : Send → ℕ → Option ℕ → Send
-with_limit s limit blocked = record {
-  room = s.room;
-  chunks = s.chunks;
-  pos = s.pos;
-  off = s.off;
-  emitted = s.emitted;
-  buffered = s.buffered;
-  limit = limit;
-  blocked = blocked;
-  fin = s.fin;
-  shut = s.shut;
-  acked = s.acked;
-  error = s.error;
-}
+with_limit s limit blocked = record s { limit = limit; blocked = blocked }
 
 -- shut down or not, and the code of a stop
 abbrev pub with_closed : Send → Bool → Option ℕ → Send
-with_closed s shut error = record {
-  room = s.room;
-  chunks = s.chunks;
-  pos = s.pos;
-  off = s.off;
-  emitted = s.emitted;
-  buffered = s.buffered;
-  limit = s.limit;
-  blocked = s.blocked;
-  fin = s.fin;
-  shut = shut;
-  acked = s.acked;
-  error = error;
-}
+with_closed s shut error = record s { shut = shut; error = error }
 
 -- ---- joining neighbours, where a write or a retransmit would leave more than 64 chunks (RULES 4.10)
 
@@ -144,7 +66,7 @@ stays c d = ltb 0 (avail c) && ltb 0 d.pos
 
 -- two neighbours in one, where their boundary does not stay: what of them was sent lies in front of what is to be sent
 abbrev pub both : RangeBuf → RangeBuf → RangeBuf
-both c d = record { off = c.off; len = c.len + d.len; pos = c.pos + d.pos }
+both c d = record c { len = c.len + d.len; pos = c.pos + d.pos }
 
 -- a chunk in front of joined chunks; all chunks joined
 abbrev pub joined_to : RangeBuf → List RangeBuf → List RangeBuf
@@ -377,7 +299,7 @@ ack_drops s a n =
 
 -- a chunk moved back over a range from a on
 abbrev pub moved_back : RangeBuf → ℕ → RangeBuf
-moved_back c a = record { off = c.off; len = c.len; pos = min c.pos (a - c.off) }
+moved_back c a = record c { pos = min c.pos (a - c.off) }
 
 -- the chunks from the first one that reaches a to the last one that begins below e, moved back; one that holds e strictly inside is split there
 abbrev pub back : List RangeBuf → ℕ → ℕ → List RangeBuf

@@ -16,11 +16,11 @@ pub record Send : Type 0 where
   pub emitted : ℕ  -- the largest offset that was sent
   pub buffered : ℕ  -- the bytes still to be sent
   pub limit : ℕ  -- how far the peer lets us send
-  pub blocked : (Option ℕ)  -- the last offset at which the stream was blocked
-  pub fin : (Option ℕ)  -- the final size F, once known
+  pub blocked : Option ℕ  -- the last offset at which the stream was blocked
+  pub fin : Option ℕ  -- the final size F, once known
   pub shut : Bool
   pub acked : List Range
-  pub error : (Option ℕ)  -- the code of a stop
+  pub error : Option ℕ  -- the code of a stop
 
 -- what a buffer holds
 abbrev pub view_of : SendBuf → Send

@@ -20,17 +20,15 @@ bytes_judged s n fin =
     cond (no_entry s n) (Err TableFull) (
     Ok tt)))
 
--- k bytes of an input of n fit: the limit, the table and the input have them
-pub record Fits (s : Send) (n k : ℕ) : Type 0 where
+-- k bytes fit: the limit and the table have them
+pub record Fits (s : Send) (k : ℕ) : Type 0 where
   pub limit_in : s.off + k ≤ s.limit
   pub entries : length s.chunks + pieces k ≤ 64
-  pub input_in : k ≤ n
 
--- k bytes of an input of n are let in: the limit, the arena and the input have them
-pub record Admits (s : Send) (n k : ℕ) : Type 0 where
+-- k bytes are let in: the limit and the arena have them
+pub record Admits (s : Send) (k : ℕ) : Type 0 where
   pub limit_in : s.off + k ≤ s.limit
   pub room_in : k + (s.off - base s.chunks s.off) ≤ s.room
-  pub input_in : k ≤ n
 
 -- k bytes more are written, cut into chunks
 unfoldable pub grown : Send → ℕ → Send
@@ -38,15 +36,6 @@ grown s k = with_end (with_queue s (s.chunks ++ cut (pieces k) s.off k) s.pos (s
 
 unfoldable pub appended : Send → ℕ → Outcome ℕ SendBuf
 appended s k = record { answer = Ok k; state = buf_of (grown s k) }
-
--- k bytes more, none of which was sent, join the last chunk
-abbrev pub grown_by : RangeBuf → ℕ → RangeBuf
-grown_by c k = record { off = c.off; len = c.len + k; pos = c.pos }
-
-abbrev pub grown_last : List RangeBuf → ℕ → List RangeBuf
-grown_last [] k = []
-grown_last (c ∷ []) k = grown_by c k ∷ []
-grown_last (c ∷ d ∷ ds) k = c ∷ grown_last (d ∷ ds) k
 
 -- k bytes more are written: as chunks of their own, or, if these would be more than 64, joined to the others
 unfoldable pub taking : Send → ℕ → Send

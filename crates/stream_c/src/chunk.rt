@@ -16,7 +16,8 @@ pub struct VkRangeBufOut {
     pub answer: VkAnswer,
 }
 
-// The chunk after a split, which is its left part, the right part, and what the split answered. No right part: an empty chunk at 0.
+// The chunk after a split, which is its left part, the right part, and what the split answered. No right part: an empty chunk at 0, since C
+// can hold no `Option`.
 #[repr(C)]
 #[derive(Clone, Copy)]
 pub struct VkSplitOut {

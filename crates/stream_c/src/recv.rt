@@ -227,6 +227,7 @@ impl From<VkRecvBuf> for RecvBuf {
 
     #[tactic(auto, unfolding(crate::specs::State::recv_of))]
     fn from(vk: VkRecvBuf) -> RecvBuf {
+        // In a variable first: the borrow checker does not cover an array field that goes straight from one struct into another's literal.
         let data = vk.data;
         RecvBuf {
             data,
@@ -247,6 +248,7 @@ impl From<RecvBuf> for VkRecvBuf {
 
     #[tactic(auto, unfolding(crate::specs::State::vk_recv))]
     fn from(buf: RecvBuf) -> VkRecvBuf {
+        // In a variable first: the borrow checker does not cover an array field that goes straight from one struct into another's literal.
         let data = buf.data;
         VkRecvBuf {
             data,

@@ -89,7 +89,7 @@ pub extern "C" fn vk_send_buf_update_max_data(buf: VkSendBuf, max_data: u64) -> 
     SendBuf::from(buf).update_max_data(max_data).into()
 }
 
-// Records the offset at which the stream was last blocked, or, with `known` false, that it is not.
+// Records the offset at which the stream was last blocked, or, with `known` false, that it is not: C's form of a number that may be missing.
 #[unsafe(no_mangle)]
 pub extern "C" fn vk_send_buf_update_blocked_at(
     buf: VkSendBuf,
@@ -272,6 +272,7 @@ impl From<VkSendBuf> for SendBuf {
 
     #[tactic(auto, unfolding(crate::specs::State::send_of))]
     fn from(vk: VkSendBuf) -> SendBuf {
+        // In a variable first: the borrow checker does not cover an array field that goes straight from one struct into another's literal.
         let data = vk.data;
         SendBuf {
             data,
@@ -296,6 +297,7 @@ impl From<SendBuf> for VkSendBuf {
 
     #[tactic(auto, unfolding(crate::specs::State::vk_send))]
     fn from(buf: SendBuf) -> VkSendBuf {
+        // In a variable first: the borrow checker does not cover an array field that goes straight from one struct into another's literal.
         let data = buf.data;
         VkSendBuf {
             data,

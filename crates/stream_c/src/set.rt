@@ -17,7 +17,7 @@ pub struct VkRangeSetOut {
     pub answer: VkAnswer,
 }
 
-// A range, where there is one; 0..0 where there is none.
+// A range, where there is one; 0..0 where there is none. A flag beside it, as C needs it.
 #[repr(C)]
 #[derive(Clone, Copy)]
 pub struct VkRangeOut {

@@ -1,16 +1,11 @@
 -- A table of 64 entries with a count, as a list: what the contracts of every crate with a table are written in.
 -- Entries may be of any type; z is the zero entry, which every unused place holds.
-use Rattle.std.specs.Prelude.{◌≡◌, Bool, cond, List, [], ◌∷◌, ◌++◌, ℕ, ◌-◌, ◌≤◌, length, take, drop, replicate}
+use Rattle.std.specs.Prelude.{◌≡◌, List, ◌∷◌, ◌++◌, ℕ, ◌-◌, ◌≤◌, length, take, drop, replicate}
 
 module _ {A : Type 0} where
   -- the table that holds l: its entries, and zero in every place behind them
   abbrev pub table_of : A → List A → List A
   table_of z l = l ++ replicate (64 - length l) z
-
-  -- the entries at the front of a list that pass a test, up to the first that does not
-  abbrev pub take_while : (A → Bool) → List A → List A
-  take_while p [] = []
-  take_while p (x ∷ xs) = cond (p x) (x ∷ take_while p xs) []
 
   -- m in the place of the entries from index a to before index b
   abbrev pub splice_at : ℕ → ℕ → A → List A → List A

@@ -1,3 +1,2 @@
 -- What the contracts of the program cite.
 pub mod Sound
-pub mod Unique

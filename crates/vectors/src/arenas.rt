@@ -9,6 +9,14 @@ pub fn zeros(alloc: Global, length: u64) -> Result<Vec<u8>, AllocError> {
     Ok(vec![in alloc; 0u8; length.min(LONGEST) as usize]?)
 }
 
+// The arena that a call finds: the buffer's own, or the one that is lent in its place.
+pub fn found<'a>(own: &'a mut Vec<u8>, lent: &'a mut Option<Vec<u8>>) -> &'a mut [u8] {
+    match lent {
+        Some(other) => other.as_mut_slice(),
+        None => own.as_mut_slice(),
+    }
+}
+
 // The chunks' bytes as one string: all, or only those that are not consumed.
 pub fn held(
     alloc: Global,

@@ -27,11 +27,12 @@ mod words;
 
 use reader::Reader;
 use replay::Replay;
-use std::alloc::AllocError;
+use std::io;
 
-fn main(rt: HostRuntime) -> Result<(), AllocError> {
+fn main(rt: HostRuntime) -> io::Result<()> {
     let mut reader = Reader::new(rt.alloc(), rt.stdin())?;
     let mut replay = Replay::new(rt.alloc());
+    // A proved loop has to end, so this one counts its lines, up to a number that no list comes to.
     for _ in 0..u64::MAX {
         if reader.is_done() {
             break;

@@ -1,4 +1,7 @@
 // What the five objects of a sequence have in common: each is created, called and shown.
+//
+// The allocator passes through each call. As a field it would stand in five objects, two of which are no more than a proved value, and a
+// creation would need it as a parameter all the same.
 use super::text::Said;
 use super::words::Failure;
 use refusal::Refusal;

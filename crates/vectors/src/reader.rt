@@ -1,35 +1,41 @@
 // Standard input, a line at a time.
-use std::alloc::{AllocError, Global};
+use std::alloc::Global;
+use std::io;
 use std::io::{BufRead, BufReader, Read, Stdin};
 
 // A line has fewer bytes than this, its end not counted.
 const LIMIT: usize = 8192;
 
+// How the input stands. A read that failed is the last one, as the end is.
+#[derive(Clone, Copy, PartialEq, Eq)]
+enum State {
+    Open,
+    Ended,
+    Broken,
+}
+
 #[derive(Drop)]
 pub struct Reader {
     input: BufReader<Stdin>,
     line: Vec<u8>,
-    // The input has ended, or a read of it failed.
-    done: bool,
-    broken: bool,
+    state: State,
 }
 
 impl Reader {
-    pub fn new(alloc: Global, input: Stdin) -> Result<Reader, AllocError> {
+    pub fn new(alloc: Global, input: Stdin) -> io::Result<Reader> {
         Ok(Reader {
-            input: BufReader::with_capacity(alloc, LIMIT, input).map_err(|_| AllocError)?,
+            input: BufReader::with_capacity(alloc, LIMIT, input)?,
             line: Vec::with_capacity(alloc, LIMIT)?,
-            done: false,
-            broken: false,
+            state: State::Open,
         })
     }
 
     pub fn is_done(&self) -> bool {
-        self.done
+        self.state != State::Open
     }
 
     pub fn is_broken(&self) -> bool {
-        self.broken
+        self.state == State::Broken
     }
 
     // The next line without its end, or none where it is too long. Behind the last one comes an empty line.
@@ -42,12 +48,15 @@ impl Reader {
             return Some(self.line.as_slice());
         }
         if self.line.len() < LIMIT {
-            self.broken = read.is_err();
-            self.done = true;
+            self.state = match read {
+                Ok(_) => State::Ended,
+                Err(_) => State::Broken,
+            };
             return Some(self.line.as_slice());
         }
-        self.broken = self.input.skip_until(b'\n').is_err();
-        self.done = self.broken;
+        if self.input.skip_until(b'\n').is_err() {
+            self.state = State::Broken;
+        }
         None
     }
 }

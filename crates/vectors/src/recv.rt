@@ -1,8 +1,8 @@
 // A receive buffer (`r.`): its calls, and how they are made.
 ghost use Rattle.recv_buf.specs.State.{Good};
-ghost use Rattle.vectors.specs.Unique.{good_props};
+ghost use Rattle.recv_buf.proofs.Props.{recv_props};
 
-use super::arenas::{held, zeros};
+use super::arenas::{found, held, zeros};
 use super::object::Object;
 use super::text::{Bytes, List, Said, Text};
 use super::window::Window;
@@ -15,7 +15,7 @@ use std::alloc::{AllocError, Global};
 #[derive(Drop)]
 struct Receiving {
     buf: RecvBuf,
-    ghost good: { Good buf } by { Prim.hlevel good_props },
+    ghost good: { Good buf } by { Prim.hlevel recv_props },
 }
 
 // The buffer, and its arena.
@@ -31,11 +31,11 @@ pub enum RecvCall {
         off: u64,
         data: Vec<u8>,
         fin: bool,
-        lent: Option<u64>,
+        lent: Option<Vec<u8>>,
     },
     Emit {
         room: u64,
-        lent: Option<u64>,
+        lent: Option<Vec<u8>>,
     },
     Discard(u64),
     Reset {
@@ -78,11 +78,11 @@ impl Object for Receiver {
                 off: number(off)?,
                 data: bytes(alloc, data)?,
                 fin: mark(fin)?,
-                lent: lent(rest)?,
+                lent: lent(alloc, rest)?,
             },
             ("emit", [room, rest @ ..]) => RecvCall::Emit {
                 room: number(room)?,
-                lent: lent(rest)?,
+                lent: lent(alloc, rest)?,
             },
             ("discard", [n]) => RecvCall::Discard(number(n)?),
             ("reset", [code, size]) => RecvCall::Reset {
@@ -110,7 +110,7 @@ impl Object for Receiver {
                 data,
                 fin,
                 lent,
-            } => self.write(alloc, off, data.as_slice(), fin, lent)?,
+            } => self.write(off, data.as_slice(), fin, lent),
             RecvCall::Emit { room, lent } => self.emit(alloc, room, lent)?,
             RecvCall::Discard(n) => self.receiving.discard(n),
             RecvCall::Reset { code, size } => self.receiving.reset(code, size),
@@ -130,38 +130,26 @@ impl Object for Receiver {
 }
 
 impl Receiver {
-    fn write(
-        &mut self,
-        alloc: Global,
-        off: u64,
-        data: &[u8],
-        fin: bool,
-        lent: Option<u64>,
-    ) -> Result<Said, AllocError> {
-        let Some(length) = lent else {
-            return Ok(
-                self.receiving
-                    .write(self.arena.as_mut_slice(), off, data, fin),
-            );
-        };
-        let mut other = zeros(alloc, length)?;
-        Ok(self.receiving.write(other.as_mut_slice(), off, data, fin))
+    fn write(&mut self, off: u64, data: &[u8], fin: bool, mut lent: Option<Vec<u8>>) -> Said {
+        let arena = found(&mut self.arena, &mut lent);
+        self.receiving.write(arena, off, data, fin)
     }
 
-    fn emit(&mut self, alloc: Global, room: u64, lent: Option<u64>) -> Result<Said, AllocError> {
+    fn emit(
+        &mut self,
+        alloc: Global,
+        room: u64,
+        mut lent: Option<Vec<u8>>,
+    ) -> Result<Said, AllocError> {
         let mut out = zeros(alloc, room)?;
-        let answer = match lent {
-            None => self
-                .receiving
-                .emit(self.arena.as_slice(), out.as_mut_slice()),
-            Some(length) => self
-                .receiving
-                .emit(zeros(alloc, length)?.as_slice(), out.as_mut_slice()),
-        };
+        let arena = found(&mut self.arena, &mut lent);
+        let answer = self.receiving.emit(arena, out.as_mut_slice());
         Ok(Said::emitted(answer, out))
     }
 }
 
+// Each method keeps the state that its call leaves. A helper for that would be handed the whole buffer once more, and each method would name
+// its own law under `using` all the same.
 impl Receiving {
     #[tactic(auto, using(recv_buf::proofs::Kept::created_good))]
     fn new(limit: u64, maximum: u64, arena: &[u8]) -> Result<Receiving, Refusal> {
@@ -234,6 +222,7 @@ impl Receiving {
         said
     }
 
+    // What such a call answers stands in window.rt alone: the buffer's record is taken out, and set back by the caller.
     fn window(&self) -> Window {
         Window {
             flow: self.buf.flow_control(),

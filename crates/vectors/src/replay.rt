@@ -85,7 +85,7 @@ impl Replay {
                 self.not_understood(rt);
                 Ok(())
             }
-            Err(Failure::OutOfMemory) => Err(AllocError),
+            Err(Failure::OutOfMemory(e)) => Err(e),
         }
     }
 

@@ -1,8 +1,8 @@
 // A send buffer (`s.`): its calls, and how they are made.
 ghost use Rattle.send_buf.specs.State.{Good};
-ghost use Rattle.vectors.specs.Unique.{good_props};
+ghost use Rattle.send_buf.proofs.Props.{send_props};
 
-use super::arenas::{held, zeros};
+use super::arenas::{found, held, zeros};
 use super::object::Object;
 use super::text::{Bytes, List, Said, Text};
 use super::words::{Failure, bytes, lent, mark, number, optional};
@@ -14,7 +14,7 @@ use std::alloc::{AllocError, Global};
 #[derive(Drop)]
 struct Sending {
     buf: SendBuf,
-    ghost good: { Good buf } by { Prim.hlevel good_props },
+    ghost good: { Good buf } by { Prim.hlevel send_props },
 }
 
 // The buffer, and its arena.
@@ -29,11 +29,11 @@ pub enum SendCall {
     Write {
         data: Vec<u8>,
         fin: bool,
-        lent: Option<u64>,
+        lent: Option<Vec<u8>>,
     },
     Emit {
         room: u64,
-        lent: Option<u64>,
+        lent: Option<Vec<u8>>,
     },
     Ack {
         off: u64,
@@ -78,11 +78,11 @@ impl Object for Sender {
             ("write", [data, fin, rest @ ..]) => SendCall::Write {
                 data: bytes(alloc, data)?,
                 fin: mark(fin)?,
-                lent: lent(rest)?,
+                lent: lent(alloc, rest)?,
             },
             ("emit", [room, rest @ ..]) => SendCall::Emit {
                 room: number(room)?,
-                lent: lent(rest)?,
+                lent: lent(alloc, rest)?,
             },
             ("ack", [off, len]) => SendCall::Ack {
                 off: number(off)?,
@@ -110,7 +110,7 @@ impl Object for Sender {
 
     fn call(&mut self, alloc: Global, call: SendCall) -> Result<Said, AllocError> {
         Ok(match call {
-            SendCall::Write { data, fin, lent } => self.write(alloc, data.as_slice(), fin, lent)?,
+            SendCall::Write { data, fin, lent } => self.write(data.as_slice(), fin, lent),
             SendCall::Emit { room, lent } => self.emit(alloc, room, lent)?,
             SendCall::Ack { off, len } => self.sending.ack(off, len),
             SendCall::AckAndDrop { off, len } => self.sending.ack_and_drop(off, len),
@@ -130,32 +130,26 @@ impl Object for Sender {
 }
 
 impl Sender {
-    fn write(
-        &mut self,
-        alloc: Global,
-        data: &[u8],
-        fin: bool,
-        lent: Option<u64>,
-    ) -> Result<Said, AllocError> {
-        let Some(length) = lent else {
-            return Ok(self.sending.write(self.arena.as_mut_slice(), data, fin));
-        };
-        let mut other = zeros(alloc, length)?;
-        Ok(self.sending.write(other.as_mut_slice(), data, fin))
+    fn write(&mut self, data: &[u8], fin: bool, mut lent: Option<Vec<u8>>) -> Said {
+        let arena = found(&mut self.arena, &mut lent);
+        self.sending.write(arena, data, fin)
     }
 
-    fn emit(&mut self, alloc: Global, room: u64, lent: Option<u64>) -> Result<Said, AllocError> {
+    fn emit(
+        &mut self,
+        alloc: Global,
+        room: u64,
+        mut lent: Option<Vec<u8>>,
+    ) -> Result<Said, AllocError> {
         let mut out = zeros(alloc, room)?;
-        let answer = match lent {
-            None => self.sending.emit(self.arena.as_slice(), out.as_mut_slice()),
-            Some(length) => self
-                .sending
-                .emit(zeros(alloc, length)?.as_slice(), out.as_mut_slice()),
-        };
+        let arena = found(&mut self.arena, &mut lent);
+        let answer = self.sending.emit(arena, out.as_mut_slice());
         Ok(Said::emitted(answer, out))
     }
 }
 
+// Each method keeps the state that its call leaves. A helper for that would be handed the whole buffer once more, and each method would name
+// its own law under `using` all the same.
 impl Sending {
     #[tactic(auto, using(send_buf::proofs::Kept::created_good))]
     fn new(limit: u64, arena: &[u8]) -> Result<Sending, Refusal> {

@@ -1,6 +1,6 @@
 // A range set (`rs.`): its calls, and how they are made.
 ghost use Rattle.ranges.specs.State.{Good};
-ghost use Rattle.vectors.specs.Unique.{good_props};
+ghost use Rattle.ranges.proofs.Props.{set_props};
 
 use super::object::Object;
 use super::text::{List, Said, Shown, Text};
@@ -14,7 +14,7 @@ use std::fmt;
 #[derive(Drop)]
 pub struct Set {
     pub set: RangeSet,
-    ghost good: { Good set } by { Prim.hlevel good_props },
+    ghost good: { Good set } by { Prim.hlevel set_props },
 }
 
 #[derive(Drop)]
@@ -78,6 +78,7 @@ fn range(start: &str, end: &str) -> Result<Range, Failure> {
     })
 }
 
+// Each method keeps the state that its call leaves, as in send.rt.
 impl Set {
     #[tactic(auto, using(ranges::proofs::Kept::created_good))]
     fn new(capacity: usize) -> Result<Set, Refusal> {

@@ -11,6 +11,8 @@ pub enum Kind {
     Recv,
 }
 
+const KINDS: [Kind; 5] = [Kind::Chunk, Kind::Window, Kind::Set, Kind::Send, Kind::Recv];
+
 // The calls on an object: all, those that agree with quiche's stored answer, and those that agree with the rules' in a row.
 #[derive(Clone, Copy, Default)]
 struct Counts {
@@ -21,14 +23,28 @@ struct Counts {
 
 #[derive(Drop)]
 pub struct Tally {
-    // By kind, in the order of `Kind`.
+    // By kind, whose own number is the place. Each of the five has its line in the table, called or not: a map would hold the same five.
     counts: [Counts; 5],
-    // By row of docs/DIFFERENCES.md.
+    // By row of docs/DIFFERENCES.md, whose number is the place. A row from 64 on is not counted, so each that is has its place; a map would
+    // ask for memory at a new row, and the count could fail.
     rows: [u64; 64],
     pub differ: u64,
     pub unclear: u64,
     // Standard input could not be read to its end.
     pub broken: bool,
+}
+
+impl Kind {
+    // What the names of its calls begin with.
+    fn name(self) -> &'static str {
+        match self {
+            Kind::Chunk => "rb",
+            Kind::Window => "fc",
+            Kind::Set => "rs",
+            Kind::Send => "s",
+            Kind::Recv => "r",
+        }
+    }
 }
 
 fn count(n: &mut u64) {
@@ -101,12 +117,13 @@ impl Tally {
     }
 
     fn write_kinds<W: fmt::Write>(&self, f: &mut fmt::Formatter<W>) -> fmt::Result {
-        for (name, counts) in ["rb", "fc", "rs", "s", "r"].iter().zip(self.counts.iter()) {
+        for kind in KINDS {
+            let name = kind.name();
             let Counts {
                 calls,
                 agree,
                 ruled,
-            } = *counts;
+            } = self.counts[kind as usize];
             writeln!(
                 f,
                 "{name}.: {calls} calls, {agree} agree with quiche, {ruled} in a row"

@@ -2,22 +2,22 @@
 //
 // Nothing is taken on trust: a word that is none of the script's, a number that does not fit 64 bits, a pattern longer than any buffer can
 // use: each makes the line one that is not understood.
-use hex::FromHexError;
+use super::arenas::zeros;
 use std::alloc::{AllocError, Global};
 
 // The longest pattern.
 const LONGEST: u64 = 70_000;
 
 // Why a line gave no answer.
-#[derive(Debug, Drop)]
+#[derive(Drop)]
 pub enum Failure {
     NotUnderstood,
-    OutOfMemory,
+    OutOfMemory(AllocError),
 }
 
 impl From<AllocError> for Failure {
-    fn from(_e: AllocError) -> Failure {
-        Failure::OutOfMemory
+    fn from(e: AllocError) -> Failure {
+        Failure::OutOfMemory(e)
     }
 }
 
@@ -29,6 +29,7 @@ pub enum Part {
 }
 
 // Decimal digits, with no sign.
+// `carry` reads its arguments so as well: the two programs share no crate of their own, and one for these lines is no plainer.
 pub fn number(word: &str) -> Result<u64, Failure> {
     if word.starts_with('+') {
         return Err(Failure::NotUnderstood);
@@ -62,12 +63,12 @@ pub fn side(word: &str) -> Result<Part, Failure> {
     }
 }
 
-// `@N` behind all other words: the length of an arena that is lent in place of the buffer's own.
-pub fn lent(words: &[&str]) -> Result<Option<u64>, Failure> {
+// `@N` behind all other words: an arena of N zeros that is lent in place of the buffer's own.
+pub fn lent(alloc: Global, words: &[&str]) -> Result<Option<Vec<u8>>, Failure> {
     match words {
         [] => Ok(None),
         [word] => match word.strip_prefix('@') {
-            Some(length) => Ok(Some(number(length)?)),
+            Some(length) => Ok(Some(zeros(alloc, number(length)?)?)),
             None => Err(Failure::NotUnderstood),
         },
         _ => Err(Failure::NotUnderstood),
@@ -88,15 +89,16 @@ pub fn bytes(alloc: Global, word: &str) -> Result<Vec<u8>, Failure> {
     }
 }
 
-// The digits above 9 are small letters.
+// The digits above 9 are small letters. The room is asked for here, so that a refusal of memory is handed on as it was met.
 fn from_hex(alloc: Global, digits: &str) -> Result<Vec<u8>, Failure> {
     if digits.bytes().any(|b| b.is_ascii_uppercase()) {
         return Err(Failure::NotUnderstood);
     }
-    hex::decode(alloc, digits).map_err(|e| match e {
-        FromHexError::OutOfMemory => Failure::OutOfMemory,
-        _ => Failure::NotUnderstood,
-    })
+    let mut bytes = vec![in alloc; 0u8; digits.len() / 2]?;
+    match hex::decode_to_slice(digits, bytes.as_mut_slice()) {
+        Ok(()) => Ok(bytes),
+        Err(_) => Err(Failure::NotUnderstood),
+    }
 }
 
 fn pattern(alloc: Global, count: u64, which: u64) -> Result<Vec<u8>, Failure> {

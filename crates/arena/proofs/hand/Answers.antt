@@ -1,64 +1,73 @@
--- `hand` meets its contract. The invariant: the first i bytes of `out` are those kept from off on. Assumes nothing.
-use mathlib.Core.Path.{◌≡◌, refl, sym, ap, ◌∙◌}
-use native.Mathlib.Omega.{arith}
-use Prim.Native.Nat.{ℕ, ◌+◌, ◌%◌, ◌≤◌}
-use native.Mathlib.Nat.{add-zero, add_assoc}
-use lib.ListN.{length}
+-- `hand` meets its contract. Assumes nothing.
+use Rattle.std.proofs.Common.{rules, ◌≡◌, ◌++◌, ◌≤◌, ◌%◌, length, take, drop, ℕ, ◌+◌, ◌-◌, ◌∙◌, sym, ap, arith}
+use native.Mathlib.Nat.{add_assoc}
+use borrow.Rule.Slice.PartMut.{put_mid}
+use Rattle.arena.proofs.Places.{around}
 use Rattle.arena.specs.Rules.{held}
-use Rattle.arena.proofs.Places.{follows}
-use Rattle.arena.proofs.Loops.{alike, less, part_length, put_length, hand_turn, no_places_hand}
-use lib.Seq.{take_all}
-use Rattle.arena.proofs.Laws.{held_none, handed_held}
+use Rattle.arena.proofs.Loops.{hand_first, hand_next, hand_end, put_length, no_places_hand, no_bytes_hand}
 use Rattle.arena.proofs.hand.Goals as goal
+use Rattle.arena.proofs.hand.Goals.{then-all-eq0-via-then-all-eq0, then-all-eq0-via-else-all-eq0+then-is_empty}
 
 pub returns-then-all-eq0 : goal.returns-then-all-eq0
 returns-then-all-eq0 c =
     let a = c.args in
-    no_places_hand a.arena.now a.off a.out.now c.if-all-eq0.true
+    elim c.then-all-eq0.branch [
+      | then-all-eq0-via-then-all-eq0 w ↦ no_places_hand a.arena.now a.off a.out.now w.if-all-eq0.true
+      | then-all-eq0-via-else-all-eq0+then-is_empty w ↦ no_bytes_hand a.arena.now a.off a.out.now (search rules)
+    ]
 
-pub loop-i-init : goal.loop-i-init
-loop-i-init c =
+pub loop-start-init : goal.loop-start-init
+loop-start-init c =
     let a = c.args in
-    (omega arith, refl, c.place-at.ensures.1, rw (add-zero a.off) c.place-at.ensures.0, sym (held_none a.arena.now a.off))
-
-pub copy_from_slice-requires : goal.copy_from_slice-requires
-copy_from_slice-requires c =
-    let fit = c.min-n.ensures in
-    let l = c.loop-i in
-    alike _ _ _ _ c.min-n.result (omega (arith, fit, l.invariant.0, l.invariant.1)) (omega (arith, fit, l.invariant.2))
-
-pub loop-i-smaller : goal.loop-i-smaller
-loop-i-smaller c =
-    let l = c.loop-i in
-    let same = sym l.invariant.1 in
-    less _ _ l.i l.at c.min-n.result (rw same c.min-n.ensures) (rw same c.loop-i-test.true) l.invariant.2
-
-pub loop-i-preserved : goal.loop-i-preserved
-loop-i-preserved c =
-    let n = c.min-n.result in
-    let fit = c.min-n.ensures in
-    let l = c.loop-i in
-    let a = c.args in
-    let k = c.copy_from_slice in
-    let all = length a.arena.now in
-    let room : l.at + n ≤ length a.arena.now = omega (arith, fit, l.invariant.2) in
-    let left : l.i + n ≤ length l.out = omega (arith, fit, l.invariant.0, l.invariant.1) in (
-      omega (arith, left, l.invariant.1),
-      put_length l.i n l.out k.new.self left (ap length k.ensures.after ∙ part_length _ _ n (omega (arith, fit, l.invariant.2))) ∙ l.invariant.1,
-      c.following-at.ensures.1,
-      c.following-at.ensures.0 ∙ follows all (a.off + l.i) l.at n l.invariant.3 ∙ ap (λ (m : ℕ). m % all) (add_assoc a.off l.i n),
-      hand_turn a.arena.now a.off l.i l.at n l.out k.new.self l.invariant.3 room left k.ensures.after l.invariant.4,
+    let at = c.place-at.result in
+    let n = c.min-end.result in
+    let e = c.min-end.ensures in
+    let p = c.place-at.ensures in
+    let fit : at + n ≤ length a.arena.now = omega (arith, e, p.1) in
+    let is = c.copy_from_slice.ensures.after in
+    let last = c.copy_from_slice.new.self in
+    let same : length (last ++ drop n a.out.now) ≡ length a.out.now = search rules in (
+      omega (arith, e, same),
+      λ r. around (length a.arena.now) a.off at n p.0 (omega (arith, e, p.1, same, r)),
+      hand_first a.arena.now a.off at n a.out.now last p.0 fit is,
     )
 
-pub shape_of-out : goal.shape_of-out
-shape_of-out c = c.loop-i.invariant.1
-
-pub returns : goal.returns
-returns c =
-    let l = c.loop-i in
+pub loop-start-preserved : goal.loop-start-preserved
+loop-start-preserved c =
     let a = c.args in
-    let n : l.i ≡ length a.out.now = omega arith in
-    sym (take_all l.i l.out (omega arith))
-    ∙ l.invariant.4
-    ∙ ap (held a.arena.now a.off) n
-    ∙ sym (handed_held a.arena.now a.off a.out.now (omega arith))
+    let l = c.loop-start in
+    let n = c.min-n.result in
+    let all = length a.arena.now in
+    let inv = l.invariant in
+    let last = c.copy_from_slice-in-loop-start.new.self in
+    let out = put_mid l.start (l.start + n - l.start) l.out last in
+    let whole : n ≡ all = omega (arith, c.min-n.ensures, inv.0) in
+    let fit : l.start + n ≤ length l.out = omega (arith, c.min-n.ensures, inv.0) in
+    let first : 0 ≡ (a.off + l.start) % all = inv.1 (omega arith) in
+    let same = put_length l.start n l.out last fit (search rules) in
+    let filled = hand_next a.arena.now a.off l.start n l.out last first (omega (arith, whole)) fit c.copy_from_slice-in-loop-start.ensures.after inv.2 in (
+      omega (arith, whole, fit, same),
+      λ _. around all (a.off + l.start) 0 all first (omega arith) ∙ ap (λ (m : ℕ). m % all) (add_assoc a.off l.start all),
+      ap (λ (m : ℕ). take (l.start + m) out) (sym whole) ∙ filled ∙ ap (λ (m : ℕ). held a.arena.now a.off (l.start + m)) whole,
+    )
+
+pub returns-else-is_empty : goal.returns-else-is_empty
+returns-else-is_empty c =
+    let a = c.args in
+    let l = c.loop-start in
+    hand_end a.arena.now a.off l.start l.out a.out.now (search rules) (search rules) (search rules) l.invariant.2
+
+pub returns-else-is_empty-2 : goal.returns-else-is_empty-2
+returns-else-is_empty-2 c =
+    let a = c.args in
+    let l = c.loop-start in
+    let n = c.min-n.result in
+    let inv = l.invariant in
+    let last = c.copy_from_slice-in-loop-start.new.self in
+    let out = put_mid l.start (l.start + n - l.start) l.out last in
+    let end : l.start + n ≡ length l.out = omega (arith, c.min-n.ensures, inv.0) in
+    let fit : l.start + n ≤ length l.out = omega (arith, end) in
+    let first : 0 ≡ (a.off + l.start) % length a.arena.now = inv.1 (omega arith) in
+    let same = put_length l.start n l.out last fit (search rules) in
+    let filled = hand_next a.arena.now a.off l.start n l.out last first (omega (arith, c.min-n.ensures)) fit c.copy_from_slice-in-loop-start.ensures.after inv.2 in
+    hand_end a.arena.now a.off (l.start + n) out a.out.now (search rules) (end ∙ sym same) (same ∙ search rules) filled

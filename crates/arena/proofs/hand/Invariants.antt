@@ -1,17 +1,14 @@
--- `hand` meets its contract. The invariant: the first i bytes of `out` are those kept from off on. Assumes nothing.
-use mathlib.Core.Path.{◌≡◌}
-use Prim.Native.Nat.{◌+◌, ◌-◌, ◌%◌, ◌≤◌, ◌<◌}
-use lib.ListN.{length, take}
+-- `hand` meets its contract. The invariant: the bytes before index `start` are those kept from off on, and the next one lies at the first
+-- place. Assumes nothing.
+use Rattle.std.proofs.Common.{◌≡◌, ◌%◌, ◌≤◌, ◌<◌, length, ◌+◌, ◌-◌, take}
 use Rattle.arena.specs.Rules.{held}
 use Rattle.arena.proofs.hand.Given as goal
 
-abbrev pub invariant-loop-i : goal.invariant-loop-i
-invariant-loop-i l =
-    (l.i ≤ length l.initial.out)
-    × (length l.out ≡ length l.initial.out)
-    × (l.at < length l.arena)
-    × (l.at ≡ (l.off + l.i) % length l.arena)
-    × (take l.i l.out ≡ held l.arena l.off l.i)
+abbrev pub invariant-loop-start : goal.invariant-loop-start
+invariant-loop-start l =
+    (l.start ≤ length l.out)
+    × (l.start < length l.out → 0 ≡ (l.off + l.start) % l.all)
+    × (take l.start l.out ≡ held l.arena l.off l.start)
 
-abbrev pub decreases-loop-i : goal.decreases-loop-i
-decreases-loop-i l = length l.initial.out - l.i
+abbrev pub decreases-loop-start : goal.decreases-loop-start
+decreases-loop-start l = length l.initial.out - l.start

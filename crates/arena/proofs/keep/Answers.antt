@@ -1,58 +1,58 @@
--- `keep` meets its contract. The invariant: to keep what is left of `src` from off + i on gives the contract's arena. Assumes nothing.
-use mathlib.Core.Path.{◌≡◌, refl, sym, ap, ◌∙◌}
-use native.Mathlib.Omega.{arith}
-use borrow.Author.Rules.{rules}
-use Prim.Native.Nat.{ℕ, ◌+◌, ◌%◌, ◌≤◌}
-use native.Mathlib.Nat.{add-zero, add_assoc}
-use lib.ListN.{length}
-use Rattle.arena.proofs.Places.{follows}
-use Rattle.arena.proofs.Loops.{alike, less, part_length, put_length, keep_turn, keep_end, no_places_keep}
+-- `keep` meets its contract. Assumes nothing.
+use Rattle.std.proofs.Common.{rules, ◌≡◌, ◌++◌, ◌≤◌, min, length, ◌+◌, ◌-◌, ◌∙◌, sym, ap, arith}
+use Rattle.std.specs.Slice.Iter.{chunks_rest}
+use borrow.Rule.Slice.PartMut.{put_mid}
+use Rattle.arena.specs.Rules.{kept}
+use Rattle.arena.proofs.Loops.{keep_part, keep_next, no_places_keep, no_bytes_keep}
 use Rattle.arena.proofs.keep.Goals as goal
+use Rattle.arena.proofs.keep.Goals.{then-all-eq0-via-then-all-eq0, then-all-eq0-via-else-all-eq0+then-is_empty}
 
 pub returns-then-all-eq0 : goal.returns-then-all-eq0
 returns-then-all-eq0 c =
     let a = c.args in
-    no_places_keep a.arena.now a.off a.src.now c.if-all-eq0.true
+    elim c.then-all-eq0.branch [
+      | then-all-eq0-via-then-all-eq0 w ↦ no_places_keep a.arena.now a.off a.src.now w.if-all-eq0.true
+      | then-all-eq0-via-else-all-eq0+then-is_empty w ↦ no_bytes_keep a.arena.now a.off a.src.now (search rules)
+    ]
 
-pub loop-i-init : goal.loop-i-init
-loop-i-init c =
+pub loop-part-init : goal.loop-part-init
+loop-part-init c =
     let a = c.args in
-    (omega arith, refl, c.place-at.ensures.1, rw (add-zero a.off) c.place-at.ensures.0, rw (add-zero a.off))
-
-pub copy_from_slice-requires : goal.copy_from_slice-requires
-copy_from_slice-requires c =
-    let fit = c.min-n.ensures in
-    let l = c.loop-i in
-    alike _ _ _ _ c.min-n.result (omega (arith, fit, l.invariant.1, l.invariant.2)) (omega (arith, fit, l.invariant.0))
-
-pub loop-i-smaller : goal.loop-i-smaller
-loop-i-smaller c =
-    let l = c.loop-i in
-    less _ _ l.i l.at c.min-n.result c.min-n.ensures c.loop-i-test.true l.invariant.2
-
-pub loop-i-preserved : goal.loop-i-preserved
-loop-i-preserved c =
-    let n = c.min-n.result in
-    let fit = c.min-n.ensures in
-    let l = c.loop-i in
-    let a = c.args in
-    let k = c.copy_from_slice in
-    let all = length a.arena.now in
-    let room : l.at + n ≤ length l.arena = omega (arith, fit, l.invariant.1, l.invariant.2) in
-    let left : l.i + n ≤ length a.src.now = omega (arith, fit, l.invariant.0) in
-    let at : l.at ≡ (a.off + l.i) % length l.arena = rw l.invariant.1 l.invariant.3 in (
-      left,
-      put_length l.at n l.arena k.new.self room (ap length k.ensures.after ∙ part_length _ _ n (omega (arith, fit, l.invariant.0))) ∙ l.invariant.1,
-      c.following-at.ensures.1,
-      c.following-at.ensures.0 ∙ follows all (a.off + l.i) l.at n l.invariant.3 ∙ ap (λ (m : ℕ). m % all) (add_assoc a.off l.i n),
-      keep_turn l.arena a.off l.i l.at n a.src.now k.new.self at room left k.ensures.after ∙ l.invariant.4,
+    let at = c.place-at.result in
+    let front = c.split_at.result.0.now in
+    let rest = c.split_at.result.1.now in
+    let whole : front ++ rest ≡ a.src.now = search rules in
+    let source : chunks_rest c.into_iter-part-iterator.result ≡ rest = search rules in
+    let some : length rest + length front ≡ length a.src.now = search rules in
+    let size = c.split_at.ensures.front_len in
+    let least = c.min.ensures in
+    let is = c.copy_from_slice.ensures.after in
+    let last = c.copy_from_slice.new.self in
+    let fit : at + length front ≤ length a.arena.now = omega (arith, size, least, c.place-at.ensures.1) in (
+      search rules,
+      tt,
+      search rules,
+      ap (kept (put_mid at (at + length front - at) a.arena.now last) 0) source
+          ∙ keep_part a.arena.now a.off at front rest last c.place-at.ensures.0 fit (λ r. omega (arith, size, least, some)) is
+          ∙ ap (kept a.arena.now a.off) whole,
     )
 
-pub shape_of-arena : goal.shape_of-arena
-shape_of-arena c = c.loop-i.invariant.1
+pub loop-part-preserved : goal.loop-part-preserved
+loop-part-preserved c =
+    let inv = c.loop-part.invariant in
+    let steps = c.in-Some.ensures.steps in
+    let a = c.loop-part.arena in
+    let more = chunks_rest c.loop-part.part-iterator in
+    let long : length a ≡ length c.args.arena.now = search rules in
+    let part : length c.in-Some.part.now ≡ min (length a) (length more) = rw (inv.2 ∙ sym long) at steps.1.1 in (
+      search rules,
+      tt,
+      steps.0 ∙ inv.2,
+      keep_next a c.in-Some.part.now (chunks_rest c.next.new.self) more c.copy_from_slice-in-loop-part.new.self steps.1.0 part c.copy_from_slice-in-loop-part.ensures.after
+          ∙ inv.3,
+    )
 
 pub returns : goal.returns
 returns c =
-    let l = c.loop-i in
-    let a = c.args in
-    sym (keep_end l.arena a.off l.i a.src.now (search rules)) ∙ l.invariant.4
+    let l = c.loop-part in
+    no_bytes_keep l.arena 0 (chunks_rest l.part-iterator) c.in-None.ensures.steps.1.0 ∙ l.invariant.3

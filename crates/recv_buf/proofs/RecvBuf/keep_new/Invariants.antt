@@ -7,6 +7,6 @@ use Rattle.recv_buf.proofs.RecvBuf.keep_new.Given as goal
 
 abbrev pub invariant-loop-chunk : goal.invariant-loop-chunk
 invariant-loop-chunk l = record {
-  above : l.off ≤ l.lo;
-  rest : run_by_run l.off l.input (drop l.chunk-index l.chunk-items) l.lo l.arena ≡ run_by_run l.off l.input l.chunk-items l.initial.lo l.initial.arena;
+  above : l.frame.off ≤ l.lo;
+  rest : run_by_run l.frame.off l.frame.bytes.now (drop l.chunk-index l.chunk-items) l.lo l.arena ≡ run_by_run l.frame.off l.frame.bytes.now l.chunk-items l.initial.lo l.initial.arena;
 }

@@ -8,6 +8,7 @@ use Rattle.send_buf.specs.Steps.{without}
 use Rattle.std.proofs.lemmas.List.{take_rest}
 use Rattle.tables.specs.Lists.{table_of}
 use lib.ListN.{drop, length, length-drop, take}
+use lib.Seq.{take_all}
 use mathlib.Core.List.{List}
 use mathlib.Core.Path.{◌≡◌, ◌∙◌, ap, sym}
 use native.Mathlib.Omega.{arith}
@@ -33,5 +34,6 @@ returns c =
     let l : List RangeBuf = drop n (view_of b).chunks in
     let m : length l ≡ b.count - n = simp (length-drop, chunks_length b c.requires.good) in
     let d : c.table_of-data.result ≡ table_of zero_buf l =
-    c.table_of-data.ensures ∙ ap (λ (x : List RangeBuf). table_of zero_buf (take (length x - n) (drop n x))) c.chunks.ensures ∙ ap (table_of zero_buf) (take_rest (view_of b).chunks n) in
+    c.table_of-data.ensures ∙ ap (λ (x : List RangeBuf). table_of zero_buf (take 64 (take (length x - n) (drop n x)))) c.chunks.ensures
+    ∙ ap (table_of zero_buf) (ap (take 64) (take_rest (view_of b).chunks n) ∙ take_all 64 l (omega (arith, m, few b c.requires.good))) in
     rw c.saturating_sub.ensures (made (without (view_of b) n c.args.bytes) c.table_of-data.result (b.count - n) b.acked d (sym m) (acked_is b c.requires.good))

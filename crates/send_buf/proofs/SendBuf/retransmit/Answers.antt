@@ -7,7 +7,10 @@ use Rattle.send_buf.proofs.Losing.{inside, loss_in, loss_settled, loss_unsent, l
 use Rattle.std.specs.List.{All}
 use native.Mathlib.Omega.{arith}
 use Rattle.send_buf.specs.State.{view_of}
-use mathlib.Core.Path.{◌∙◌, subst, sym}
+use Rattle.range_buf.specs.declared.RangeBuf.{RangeBuf}
+use lib.ListN.{drop}
+use mathlib.Core.List.{List, ◌++◌}
+use mathlib.Core.Path.{◌∙◌, ap, subst, sym}
 use Rattle.refusal.specs.declared.Refusal.TheVariants.{NeverSent}
 use Rattle.send_buf.proofs.SendBuf.retransmit.Goals as goal
 
@@ -48,8 +51,11 @@ overflow_add-self c =
 pub returns : goal.returns
 returns c =
     let b = c.args.self in
+    let rest = drop c.drop_count-at.result b.«data» in
+    let w = c.move_back.new.chunks ++ rest in
+    let m = ap (λ (l : List RangeBuf). l ++ rest) c.move_back.ensures in
     let e = moved_bytes c.args.self c.requires c.drop_count-at.result c.args.off c.args.len c.chunks.result.now c.chunks-2.result.now c.chunks.ensures c.chunks-2.ensures c.drop_count-at.ensures (sym c.begins_below.ensures ∙ c.if-begins_below.false) in
     let n = moved_count c.args.self c.requires c.drop_count-at.result c.args.off c.args.len c.chunks.result.now c.chunks-2.result.now c.chunks.ensures c.chunks-2.ensures c.drop_count-at.ensures (sym c.begins_below.ensures ∙ c.if-begins_below.false) in
-    let d = moved_table c.args.self c.requires c.drop_count-at.result c.args.off c.args.len c.chunks.result.now c.chunks-2.result.now c.chunks.ensures c.chunks-2.ensures c.drop_count-at.ensures (sym c.begins_below.ensures ∙ c.if-begins_below.false) c.move_back.new.chunks c.move_back.ensures in
+    let d = moved_table c.args.self c.requires c.drop_count-at.result c.args.off c.args.len c.chunks.result.now c.chunks-2.result.now c.chunks.ensures c.chunks-2.ensures c.drop_count-at.ensures (sym c.begins_below.ensures ∙ c.if-begins_below.false) w m in
     lost_made b c.requires c.args.off c.args.len (sym c.passes.ensures ∙ c.if-passes.false) (sym c.settled.ensures ∙ c.if-settled.false)
-    c.move_back.new.chunks b.count c.back_pos.result c.back_bytes-bytes.result d (sym n) (few b c.requires) c.back_pos.ensures (c.back_bytes-bytes.ensures ∙ e)
+    w b.count c.back_pos.result c.back_bytes-bytes.result d (sym n) (few b c.requires) c.back_pos.ensures (c.back_bytes-bytes.ensures ∙ e)

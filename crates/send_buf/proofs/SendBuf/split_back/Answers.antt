@@ -4,7 +4,10 @@ use Rattle.send_buf.proofs.Good.{chunk_good, few}
 use Rattle.send_buf.proofs.Losing.{at_in, loss_joined, lost_made, split_never, splits, tiled_back}
 use Rattle.send_buf.specs.State.{view_of}
 use Rattle.send_buf.specs.Steps.{relists, Tiled}
-use mathlib.Core.Path.{◌∙◌, ap₂, subst, sym}
+use Rattle.range_buf.specs.declared.RangeBuf.{RangeBuf}
+use lib.ListN.{drop, set}
+use mathlib.Core.List.{List, ◌++◌}
+use mathlib.Core.Path.{◌∙◌, ap, ap₂, subst, sym}
 use native.Mathlib.Omega.{arith}
 use Rattle.send_buf.proofs.SendBuf.split_back.Goals as goal
 
@@ -25,8 +28,10 @@ overflow_add-count c = omega (arith, few c.args.self c.requires.good)
 pub relist_joined-requires-clause-tiled : goal.relist_joined-requires-clause-tiled
 relist_joined-requires-clause-tiled c =
     let s = splits c.args.self c.requires.good c.args.at c.args.off c.args.len c.requires.inside c.split_off-cut.result c.split_off-cut.ensures c.in-Ok.right c.in-Ok.is in
-    let m = c.move_back in
-    subst Tiled (sym (s.both_parts m.new.chunks m.ensures (omega (arith, s.few_now, c.if-count-gt64.true)))) (tiled_back c.args.self c.requires.good c.args.off (c.args.off + c.args.len))
+    let rest = drop (c.args.at + 1) (set c.args.self.«data» c.args.at c.split_off-cut.result.state) in
+    let w = c.move_back.new.chunks ++ rest in
+    let m = ap (λ (l : List RangeBuf). l ++ rest) c.move_back.ensures in
+    subst Tiled (sym (s.both_parts w m (omega (arith, s.few_now, c.if-count-gt64.true)))) (tiled_back c.args.self c.requires.good c.args.off (c.args.off + c.args.len))
 
 pub relist_joined-requires-clause-bytes_in : goal.relist_joined-requires-clause-bytes_in
 relist_joined-requires-clause-bytes_in c =
@@ -36,9 +41,11 @@ relist_joined-requires-clause-bytes_in c =
 pub returns-then-count-gt64 : goal.returns-then-count-gt64
 returns-then-count-gt64 c =
     let s = splits c.args.self c.requires.good c.args.at c.args.off c.args.len c.requires.inside c.split_off-cut.result c.split_off-cut.ensures c.in-Ok.right c.in-Ok.is in
-    let m = c.move_back in
+    let rest = drop (c.args.at + 1) (set c.args.self.«data» c.args.at c.split_off-cut.result.state) in
+    let w = c.move_back.new.chunks ++ rest in
+    let m = ap (λ (l : List RangeBuf). l ++ rest) c.move_back.ensures in
     let h = c.requires.inside in
-    c.relist_joined.ensures ∙ ap₂ (relists (view_of c.args.self)) (s.both_parts m.new.chunks m.ensures (omega (arith, s.few_now, c.if-count-gt64.true))) (c.back_bytes-bytes.ensures ∙ s.bytes)
+    c.relist_joined.ensures ∙ ap₂ (relists (view_of c.args.self)) (s.both_parts w m (omega (arith, s.few_now, c.if-count-gt64.true))) (c.back_bytes-bytes.ensures ∙ s.bytes)
     ∙ sym (loss_joined (view_of c.args.self) c.args.off c.args.len h.was_sent_lem h.unsettled (omega (arith, s.count, c.if-count-gt64.true)))
 
 pub overflow_add-self : goal.overflow_add-self
@@ -49,7 +56,9 @@ overflow_add-self c =
 pub returns : goal.returns
 returns c =
     let s = splits c.args.self c.requires.good c.args.at c.args.off c.args.len c.requires.inside c.split_off-cut.result c.split_off-cut.ensures c.in-Ok.right c.in-Ok.is in
-    let m = c.move_back in
+    let rest = drop (c.args.at + 1) (set c.args.self.«data» c.args.at c.split_off-cut.result.state) in
+    let w = c.move_back.new.chunks ++ rest in
+    let m = ap (λ (l : List RangeBuf). l ++ rest) c.move_back.ensures in
     let h = c.requires.inside in
     lost_made c.args.self c.requires.good c.args.off c.args.len h.was_sent_lem h.unsettled c.insert.new.places (c.args.self.count + 1) c.back_pos.result c.back_bytes-bytes.result
-    (c.insert.ensures ∙ s.one_more m.new.chunks m.ensures (omega (arith, c.if-count-gt64.false))) (sym s.count) (omega (arith, c.if-count-gt64.false)) c.back_pos.ensures (c.back_bytes-bytes.ensures ∙ s.bytes)
+    (c.insert.ensures ∙ s.one_more w m (omega (arith, c.if-count-gt64.false))) (sym s.count) (omega (arith, c.if-count-gt64.false)) c.back_pos.ensures (c.back_bytes-bytes.ensures ∙ s.bytes)

@@ -10,5 +10,5 @@ use Rattle.send_buf.proofs.SendBuf.take_in.Goals as goal
 
 pub returns-else-overflows-clause-value : goal.returns-else-overflows-clause-value
 returns-else-overflows-clause-value c =
-    let h = ltb-false 64 (length (view_of c.args.self).chunks + pieces c.args.k) (sym c.overflows.ensures ∙ c.if-overflows.false) in
-    c.append.ensures.value ∙ took_plain (view_of c.args.self) c.args.k h
+    let h = ltb-false 64 (length (view_of c.args.self).chunks + pieces (length c.args.bytes.now)) (sym c.overflows.ensures ∙ c.if-overflows.false) in
+    c.append.ensures.value ∙ took_plain (view_of c.args.self) (length c.args.bytes.now) h
