@@ -1,9 +1,7 @@
 // The call that stands before its verdict: how its answer compares with the stored lines so far.
-use super::tally::{Kind, Tally};
+use super::tally::{Kind, Tally, counted, say};
 use super::words;
 use std::alloc::{AllocError, Global};
-use std::io;
-use std::io::Write;
 
 #[derive(Drop)]
 pub enum Case {
@@ -54,7 +52,7 @@ impl Made {
         Ok(())
     }
 
-    // The verdict, counted; the first few that differ are told. A write that fails is passed over.
+    // The verdict, counted; the first few that differ are told.
     pub fn settle(&self, rt: &impl Print, tally: &mut Tally) {
         tally.called(self.kind);
         let stored = match &self.verdict {
@@ -64,18 +62,26 @@ impl Made {
             Verdict::Differs(text) => text.as_slice(),
         };
         if tally.differ < 5 {
-            let _ = self.tell(&mut io::writer(rt), stored);
+            self.tell(rt, stored);
         }
         tally.differs();
     }
 
-    fn tell(&self, out: &mut impl Write, stored: &[u8]) -> io::Result<()> {
-        write!(out, "line {}: ", self.line)?;
-        out.write_all(self.call.as_slice())?;
-        write!(out, "\n  stored: ")?;
-        out.write_all(stored)?;
-        writeln!(out, "\n  ours:   {}", self.ours)
+    fn tell(&self, rt: &impl Print, stored: &[u8]) {
+        say(rt, b"line ");
+        counted(rt, self.line, b": ");
+        told(rt, self.call.as_slice());
+        say(rt, b"  stored: ");
+        told(rt, stored);
+        say(rt, b"  ours:   ");
+        told(rt, self.ours.as_bytes());
     }
+}
+
+// The rest of a line.
+fn told(rt: &impl Print, text: &[u8]) {
+    say(rt, text);
+    say(rt, b"\n");
 }
 
 // A stored line is quiche's, `< ANSWER | STATE`, or the rules', `! D-nn ANSWER | STATE`: whose it is, and its text.

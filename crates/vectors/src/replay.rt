@@ -1,7 +1,7 @@
 // What is known of the list so far: the objects, the call that stands before its verdict, and what was counted.
 use super::case::{Case, Made, Verdict};
 use super::objects::Objects;
-use super::tally::Tally;
+use super::tally::{Tally, counted, say};
 use super::words::Failure;
 use std::alloc::{AllocError, Global};
 
@@ -41,7 +41,8 @@ impl Replay {
     // A line that does not fit is reported, and the call that it may belong to has no further verdict.
     pub fn too_long(&mut self, rt: &impl Print) {
         self.lines = self.lines.saturating_add(1);
-        let _ = println!(rt; "line {}: too long", self.lines);
+        say(rt, b"line ");
+        counted(rt, self.lines, b": too long\n");
         self.tally.differs();
         self.case = Case::Passed;
     }
@@ -50,7 +51,7 @@ impl Replay {
     pub fn close(&mut self, rt: &impl Print, broken: bool) {
         self.settle(rt);
         self.tally.broken = broken;
-        let _ = print!(rt; "{}", self.tally);
+        self.tally.table(rt);
     }
 
     // A stored answer: quiche's, or the rules'.
@@ -92,7 +93,8 @@ impl Replay {
     fn not_understood(&mut self, rt: &impl Print) {
         self.tally.not_understood();
         if self.tally.unclear < 6 {
-            let _ = println!(rt; "line {}: not understood", self.lines);
+            say(rt, b"line ");
+            counted(rt, self.lines, b": not understood\n");
         }
     }
 
