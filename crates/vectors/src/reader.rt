@@ -6,8 +6,8 @@ ghost use Rattle.std.specs.Prelude.{◌≤◌};
 use arrayvec::ArrayVec;
 use std::io::{Read, Stdin};
 
-// A line has fewer than 8,192 bytes, its end not counted.
-pub type Line = ArrayVec<u8, 8191>;
+// Room for a line, its end not counted. One that fills it was cut.
+pub type Line = ArrayVec<u8, 8192>;
 
 // How the input stands. A read that failed is the last one, as the end is.
 #[derive(Clone, Copy, PartialEq, Eq)]
@@ -24,8 +24,6 @@ pub struct Reader {
     window: [u8; 4096],
     at: usize,
     have: usize,
-    // Is the line too long?
-    cut: bool,
     state: State,
     ghost have_in: { have ≤ 4096 },
     ghost at_in: { at ≤ have },
@@ -38,7 +36,6 @@ impl Reader {
             window: [0; 4096],
             at: 0,
             have: 0,
-            cut: false,
             state: State::Open,
         }
     }
@@ -54,7 +51,6 @@ impl Reader {
     // The next line without its end, put into its room, or none where it is too long. Behind the last one comes an empty line.
     pub fn next<'a>(&mut self, line: &'a mut Line) -> Option<&'a [u8]> {
         line.clear();
-        self.cut = false;
         // A proved loop has to end, so this one counts its steps, up to a number that no line comes to.
         for _ in 0..u64::MAX {
             self.refill();
@@ -62,7 +58,7 @@ impl Reader {
                 break;
             }
         }
-        if self.cut {
+        if line.is_full() {
             None
         } else {
             Some(line.as_slice())
@@ -83,14 +79,13 @@ impl Reader {
         }
     }
 
-    // Takes what the window has of the line. Did that come to the line's end?
+    // Takes what the window has of the line. Did that come to the line's end? What finds no room is left out.
     fn take(&mut self, line: &mut Line) -> bool {
         let waiting = &self.window[self.at..self.have];
         let end = waiting.iter().position(|b| *b == b'\n');
         let n = end.unwrap_or(waiting.len());
-        if line.try_extend_from_slice(&waiting[..n]).is_err() {
-            self.cut = true;
-        }
+        let room = line.remaining_capacity();
+        let _ = line.try_extend_from_slice(&waiting[..n.min(room)]);
         match end {
             Some(n) => self.at += n + 1,
             None => self.at = self.have,

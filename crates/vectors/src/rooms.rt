@@ -1,10 +1,12 @@
 // The room that the calls of a list work in. It is made once and lent to each of them, so that no memory is asked for on the way.
+ghost use Rattle.std.specs.Prelude.{◌≡◌, take};
+
 use super::reader::Line;
 use super::text::AnswerText;
 use arrayvec::{ArrayString, ArrayVec};
 use range_buf::RangeBuf;
 
-// An arena and what is shown of one has one byte more than the largest arena. All above that is refused alike, so a longer one is made this long.
+// A room for an arena's bytes has one more than the largest arena. All above that is refused alike, so a longer arena is made this long.
 #[derive(Drop)]
 pub struct Rooms {
     // The arenas of the send and of the receive buffer, and one that is lent in place of the buffer's own.
@@ -37,12 +39,16 @@ impl Rooms {
 }
 
 // The first `n` bytes of a room, or all where it has fewer.
-pub fn front(room: &[u8], n: u64) -> &[u8] {
+pub fn front(room: &[u8], n: u64) -> &[u8]
+    ensures { result.now ≡ take n room.now }
+{
     &room[..n.min(room.len() as u64) as usize]
 }
 
 // The same to write on.
-pub fn front_mut(room: &mut [u8], n: u64) -> &mut [u8] {
+pub fn front_mut(room: &mut [u8], n: u64) -> &mut [u8]
+    ensures { result.now ≡ take n room.old }
+{
     let n = n.min(room.len() as u64) as usize;
     &mut room[..n]
 }
