@@ -12,6 +12,7 @@ pub struct NotUnderstood;
 // The words of a line: the call's name, at most three behind it, and an arena.
 pub type Words<'a> = ArrayVec<&'a str, 5>;
 
+// A line of more words is no call.
 pub fn split(line: &str) -> Result<Words<'_>, NotUnderstood> {
     let mut words = Words::new();
     for word in line.split(' ') {
