@@ -1,8 +1,8 @@
 /* nulls.c: NULL with length 0, to every call that takes a pointer, as arena, as input and as output.
  *
  * Each answer must be the one that docs/RULES.md gives for no bytes: 1 for creation, 4.2 and 7.2 for a write, 4.3 and 7.3 for an emit. The
- * library's calls of memcpy and memset come to the functions below (the linker's --wrap), which want pointers that are not NULL, also for no
- * bytes: C gives such a call no meaning.
+ * library's calls of memcpy, memmove and memset come to the functions below (the linker's --wrap), which want pointers that are not NULL, also for
+ * no bytes: C gives such a call no meaning. It makes none of memmove today.
  */
 #define _DEFAULT_SOURCE
 #include <inttypes.h>
@@ -17,6 +17,7 @@ static unsigned long copies;
 extern "C" {
 #endif
 void *__real_memcpy(void *to, const void *from, size_t len);
+void *__real_memmove(void *to, const void *from, size_t len);
 void *__real_memset(void *at, int byte, size_t len);
 
 void *__wrap_memcpy(void *to, const void *from, size_t len);
@@ -24,6 +25,13 @@ void *__wrap_memcpy(void *to, const void *from, size_t len) {
     copies++;
     expect("memcpy is given pointers", to != NULL && from != NULL);
     return __real_memcpy(to, from, len);
+}
+
+void *__wrap_memmove(void *to, const void *from, size_t len);
+void *__wrap_memmove(void *to, const void *from, size_t len) {
+    copies++;
+    expect("memmove is given pointers", to != NULL && from != NULL);
+    return __real_memmove(to, from, len);
 }
 
 void *__wrap_memset(void *at, int byte, size_t len);

@@ -23,9 +23,9 @@ pub fn keep(arena: &mut [u8], off: u64, src: &[u8])
     }
     let at = place(off, all);
     let (front, rest) = src.split_at(src.len().min(all - at));
-    arena[at..at + front.len()].copy_from_slice(front);
+    copy(&mut arena[at..at + front.len()], front);
     for part in rest.chunks(all) {
-        arena[..part.len()].copy_from_slice(part);
+        copy(&mut arena[..part.len()], part);
     }
 }
 
@@ -39,11 +39,11 @@ pub fn hand(arena: &[u8], off: u64, out: &mut [u8])
     }
     let at = place(off, all);
     let end = out.len().min(all - at);
-    out[..end].copy_from_slice(&arena[at..at + end]);
+    copy(&mut out[..end], &arena[at..at + end]);
     // Not by `chunks_mut`: of a slice that it has lent, a proof knows the length alone, and not the bytes.
     for start in (end..out.len()).step_by(all) {
         let n = (out.len() - start).min(all);
-        out[start..start + n].copy_from_slice(&arena[..n]);
+        copy(&mut out[start..start + n], &arena[..n]);
     }
 }
 
@@ -53,4 +53,14 @@ fn place(off: u64, all: usize) -> usize
     ensures { (result ≡ off % all) × (result < all) }
 {
     (off % all as u64) as usize
+}
+
+// Copies `src` over `dst`, which is as long.
+fn copy(dst: &mut [u8], src: &[u8])
+    requires { length dst.old ≡ length src.now }
+    ensures { dst.new ≡ src.now }
+{
+    for i in 0..src.len() {
+        dst[i] = src[i];
+    }
 }

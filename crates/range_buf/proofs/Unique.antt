@@ -8,7 +8,9 @@ use Rattle.tables.proofs.Tables.{no_second}
 use Rattle.range_buf.specs.declared.RangeBuf.{RangeBuf}
 use Rattle.tables.specs.Checks.{table_by}
 use Rattle.range_buf.specs.Check.{good_by, is_zero}
-use Rattle.range_buf.specs.Rules.{start, end, avail, is_empty, created, consumed, split}
+use Rattle.range_buf.specs.Rules.{start, end, avail, is_empty, created, consumed, split, zero_buf}
+use Rattle.tables.specs.Lists.{table_of}
+use lib.ListN.{take}
 use Rattle.refusal.specs.declared.Outcome.{Outcome}
 
 pub from_unique : (o n : ℕ) (p q : Outcome ⊤ RangeBuf) → p ≡ created o n → q ≡ created o n → p ≡ q
@@ -37,3 +39,6 @@ is_good_unique b = no_second
 
 pub is_table_unique : (l : List RangeBuf) (n : ℕ) (p q : Bool) → p ≡ table_by is_zero n l → q ≡ table_by is_zero n l → p ≡ q
 is_table_unique l n = no_second
+
+pub table_of_unique : (l p q : List RangeBuf) → p ≡ table_of zero_buf (take 64 l) → q ≡ table_of zero_buf (take 64 l) → p ≡ q
+table_of_unique l = no_second

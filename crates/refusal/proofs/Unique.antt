@@ -41,3 +41,6 @@ is_other_unique x n = no_second
 
 pub above_m_unique : (a b : ℕ) (p q : Bool) → p ≡ ltb M (a + b) → q ≡ ltb M (a + b) → p ≡ q
 above_m_unique a b = no_second
+
+pub passes_unique : (top a b : ℕ) (p q : Bool) → p ≡ ltb top (a + b) → q ≡ ltb top (a + b) → p ≡ q
+passes_unique top a b = no_second

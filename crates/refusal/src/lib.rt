@@ -93,14 +93,22 @@ impl Refusal {
         }
     }
 
-    // The error code that the peer or the application gave, where the refusal has one.
+    // The error code that the peer or the application gave, where the refusal has one. No arm is for all the rest: a new refusal is to be asked for here
+    // too.
     pub fn code(self) -> Option<u64>
         ensures { result ≡ code_of self }
     {
         match self {
+            Refusal::Offset => None,
             Refusal::Stopped(code) => Some(code),
+            Refusal::FinalSize => None,
+            Refusal::FlowControl => None,
+            Refusal::NoRoom => None,
+            Refusal::TableFull => None,
+            Refusal::NeverSent => None,
+            Refusal::Done => None,
             Refusal::Reset(code) => Some(code),
-            _ => None,
+            Refusal::BadSetup => None,
         }
     }
 }

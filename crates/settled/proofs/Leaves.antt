@@ -7,8 +7,9 @@ use mathlib.Core.Bool.{true}
 use mathlib.Core.List.{List, [], ◌∷◌, ◌++◌}
 use Prim.Native.Nat.{ℕ, ◌+◌, ◌-◌, min, max}
 use lib.Dec.{ltb}
-use lib.ListN.{length, replicate}
+use lib.ListN.{drop, length, replicate, take}
 use Rattle.tables.specs.Checks.{table_by}
+use Rattle.tables.specs.Lists.{table_of}
 use Rattle.refusal.specs.Rules.{M, number_of, code_of, no_values, count_values, bytes_values, sizes_values, told, told_count, told_emit, told_sizes, first_two, with_count, with_bytes, with_sizes, known, is_at, is_other}
 use Rattle.refusal.specs.declared.Outcome.{Outcome}
 use Rattle.refusal.specs.declared.Refusal.TheVariants.{Stopped, NoRoom, TableFull, Reset}
@@ -54,6 +55,7 @@ refusals =
     ∷ (pair (first_two (count_values 3)) never (0 ∷ 3 ∷ []))
     ∷ (pair (first_two (bytes_values (3, true))) never (3 ∷ 0 ∷ []))
     ∷ (pair (first_two (sizes_values (3, 4))) never (4 ∷ 3 ∷ []))
+    ∷ (pair (first_two (sizes_values (3, 4))) never (3 ∷ 3 ∷ []))
     -- with_count: the count forgotten; a refusal under another number
     ∷ (numbers (told_count (with_count (Ok tt) 3)) never (0 ∷ 0 ∷ []))
     ∷ (numbers (told_count (with_count (Err TableFull) 3)) never (5 ∷ []))
@@ -82,6 +84,9 @@ refusals =
     -- above_m: M itself; a sum that wraps
     ∷ (bit (ltb M (M + 0)) never (1 ∷ []))
     ∷ (bit (ltb M (M + 0xffff_ffff_ffff_ffff)) never (0 ∷ []))
+    -- passes: the second number forgotten; a sum that wraps
+    ∷ (bit (ltb 3 (2 + 2)) never (0 ∷ []))
+    ∷ (bit (ltb 3 (2 + 0xffff_ffff_ffff_ffff)) never (0 ∷ []))
     ∷ []
 
 -- ---- arena: an arena of 3 places
@@ -144,6 +149,9 @@ chunks =
     ∷ (bit (table_by is_zero 0 (replicate 64 chunk.zero_buf)) never (0 ∷ []))
     ∷ (bit (table_by is_zero 65 (replicate 64 chunk.zero_buf)) never (1 ∷ []))
     ∷ (bit (table_by is_zero 0 (replicate 63 chunk.zero_buf ++ six ∷ [])) never (1 ∷ []))
+    -- table_of, its last entry: the 64th chunk left out; an unused entry that is not zero
+    ∷ (chunk_list (drop 63 (table_of chunk.zero_buf (take 64 (replicate 64 six)))) never (0 ∷ 0 ∷ 0 ∷ []))
+    ∷ (chunk_list (drop 63 (table_of chunk.zero_buf (take 64 (six ∷ [])))) never (10 ∷ 6 ∷ 2 ∷ []))
     ∷ []
 
 -- ---- flowcontrol: limit 16, window 16, maximum 24, 9 consumed

@@ -1,11 +1,10 @@
 // The call that stands before its verdict: how its answer compares with the stored lines so far.
-use super::tally::{Kind, Tally};
+use super::reader::Line;
+use super::rooms::Rooms;
+use super::tally::{Kind, Tally, counted, say};
 use super::words;
-use std::alloc::{AllocError, Global};
-use std::io;
-use std::io::Write;
 
-#[derive(Drop)]
+#[derive(Clone, Copy)]
 pub enum Case {
     // No call.
     Nothing,
@@ -14,25 +13,23 @@ pub enum Case {
     Made(Made),
 }
 
-// A call on an object: the number of its line, its text, and our `ANSWER | STATE`.
-#[derive(Drop)]
+// A call on an object, by the number of its line. Its text and our `ANSWER | STATE` stand in their rooms.
+#[derive(Clone, Copy)]
 pub struct Made {
     pub line: u64,
     pub kind: Kind,
-    pub call: Vec<u8>,
-    pub ours: String,
     pub verdict: Verdict,
 }
 
 // What the last stored line says.
-#[derive(Drop)]
+#[derive(Clone, Copy)]
 pub enum Verdict {
     // There was none yet.
     Waits,
     // It is ours.
     Agrees(Source),
-    // It is another.
-    Differs(Vec<u8>),
+    // It is another, which stands in its room.
+    Differs,
 }
 
 // Whose a stored line is: quiche's, or the rules', in that row of docs/DIFFERENCES.md.
@@ -44,38 +41,57 @@ pub enum Source {
 
 impl Made {
     // Holds our line against a stored one.
-    pub fn hold_against(&mut self, alloc: Global, line: &[u8]) -> Result<(), AllocError> {
-        let ours = self.ours.as_bytes();
+    pub fn hold_against(&mut self, rooms: &mut Rooms, line: &[u8]) {
+        let ours = rooms.ours.as_str().as_bytes();
         self.verdict = match stored(line) {
             Some((source, text)) if text == ours => Verdict::Agrees(source),
-            Some((_, text)) => Verdict::Differs(Vec::from_slice(alloc, text)?),
-            None => Verdict::Differs(Vec::from_slice(alloc, line)?),
+            Some((_, text)) => differs(&mut rooms.stored, text),
+            None => differs(&mut rooms.stored, line),
         };
-        Ok(())
     }
 
-    // The verdict, counted; the first few that differ are told. A write that fails is passed over.
-    pub fn settle(&self, rt: &impl Print, tally: &mut Tally) {
+    // The verdict, counted; the first few that differ are told.
+    pub fn settle(&self, rt: &impl Print, rooms: &Rooms, tally: &mut Tally) {
         tally.called(self.kind);
-        let stored = match &self.verdict {
+        let stored = match self.verdict {
             Verdict::Agrees(Source::Quiche) => return tally.agrees(self.kind),
-            Verdict::Agrees(Source::Rules(row)) => return tally.in_row(self.kind, *row),
+            Verdict::Agrees(Source::Rules(row)) => return tally.in_row(self.kind, row),
             Verdict::Waits => b"".as_slice(),
-            Verdict::Differs(text) => text.as_slice(),
+            Verdict::Differs => rooms.stored.as_slice(),
         };
         if tally.differ < 5 {
-            let _ = self.tell(&mut io::writer(rt), stored);
+            self.tell(rt, rooms, stored);
         }
         tally.differs();
     }
 
-    fn tell(&self, out: &mut impl Write, stored: &[u8]) -> io::Result<()> {
-        write!(out, "line {}: ", self.line)?;
-        out.write_all(self.call.as_slice())?;
-        write!(out, "\n  stored: ")?;
-        out.write_all(stored)?;
-        writeln!(out, "\n  ours:   {}", self.ours)
+    fn tell(&self, rt: &impl Print, rooms: &Rooms, stored: &[u8]) {
+        say(rt, b"line ");
+        counted(rt, self.line, b": ");
+        told(rt, rooms.call.as_slice());
+        say(rt, b"  stored: ");
+        told(rt, stored);
+        say(rt, b"  ours:   ");
+        told(rt, rooms.ours.as_str().as_bytes());
     }
+}
+
+// Keeps the stored text.
+fn differs(room: &mut Line, text: &[u8]) -> Verdict {
+    keep(room, text);
+    Verdict::Differs
+}
+
+// Puts a text into its room, which is as long as a line can be.
+pub fn keep(room: &mut Line, text: &[u8]) {
+    room.clear();
+    let _ = room.try_extend_from_slice(text);
+}
+
+// The rest of a line.
+fn told(rt: &impl Print, text: &[u8]) {
+    say(rt, text);
+    say(rt, b"\n");
 }
 
 // A stored line is quiche's, `< ANSWER | STATE`, or the rules', `! D-nn ANSWER | STATE`: whose it is, and its text.

@@ -2,11 +2,13 @@
 ghost use Rattle.range_buf.specs.State.{Good};
 
 use super::object::Object;
+use super::rooms::Rooms;
 use super::text::{Said, Text};
-use super::words::{Failure, Part, bytes, number, side};
+use super::words::{NotUnderstood, Part, bytes, number, side};
 use range_buf::RangeBuf;
 use refusal::Refusal;
-use std::alloc::{AllocError, Global};
+use std::fmt;
+use std::fmt::Write;
 
 // It is good at all times, as its calls ask.
 #[derive(Drop)]
@@ -29,14 +31,14 @@ impl Object for Chunk {
     type Call = ChunkCall;
 
     // Of its bytes only the count matters.
-    fn create(alloc: Global, words: &[&str]) -> Result<Result<Chunk, Refusal>, Failure> {
+    fn create(rooms: &mut Rooms, words: &[&str]) -> Result<Result<Chunk, Refusal>, NotUnderstood> {
         match words {
-            [off, data] => Ok(Chunk::new(number(off)?, bytes(alloc, data)?.len() as u64)),
-            _ => Err(Failure::NotUnderstood),
+            [off, data] => Ok(Chunk::new(number(off)?, bytes(&mut rooms.bytes, data)?)),
+            _ => Err(NotUnderstood),
         }
     }
 
-    fn read(_alloc: Global, name: &str, words: &[&str]) -> Result<ChunkCall, Failure> {
+    fn read(_rooms: &mut Rooms, name: &str, words: &[&str]) -> Result<ChunkCall, NotUnderstood> {
         Ok(match (name, words) {
             ("consume", [n]) => ChunkCall::Consume(number(n)?),
             ("split", [at, part]) => ChunkCall::Split(number(at)?, side(part)?),
@@ -44,23 +46,23 @@ impl Object for Chunk {
             ("max_off", []) => ChunkCall::MaxOff,
             ("len", []) => ChunkCall::Len,
             ("is_empty", []) => ChunkCall::IsEmpty,
-            _ => return Err(Failure::NotUnderstood),
+            _ => return Err(NotUnderstood),
         })
     }
 
-    fn call(&mut self, _alloc: Global, call: ChunkCall) -> Result<Said, AllocError> {
-        Ok(match call {
+    fn call(&mut self, _rooms: &mut Rooms, call: ChunkCall) -> Said {
+        match call {
             ChunkCall::Consume(n) => self.consume(n),
             ChunkCall::Split(at, part) => self.split(at, part),
             ChunkCall::Off => Said::Number(self.buf.off()),
             ChunkCall::MaxOff => Said::Number(self.buf.max_off()),
             ChunkCall::Len => Said::Number(self.buf.len()),
             ChunkCall::IsEmpty => Said::Mark(self.buf.is_empty()),
-        })
+        }
     }
 
-    fn state(&self, alloc: Global) -> Result<String, AllocError> {
-        format!(in alloc; "{}", Text(self.buf))
+    fn show(&self, rooms: &mut Rooms) -> fmt::Result {
+        write!(rooms.ours, "{}", Text(self.buf))
     }
 }
 

@@ -10,7 +10,6 @@
 // Any bytes may stand on standard input. A line that is no call is counted as not understood, and one of 8,192 bytes or more as differing.
 #![tactic(auto)]
 
-mod arenas;
 mod case;
 mod chunk;
 mod object;
@@ -18,6 +17,7 @@ mod objects;
 mod reader;
 mod recv;
 mod replay;
+mod rooms;
 mod send;
 mod set;
 mod tally;
@@ -25,23 +25,24 @@ mod text;
 mod window;
 mod words;
 
-use reader::Reader;
+use reader::{Line, Reader};
 use replay::Replay;
-use std::io;
+use rooms::Rooms;
 
-fn main(rt: HostRuntime) -> io::Result<()> {
-    let mut reader = Reader::new(rt.alloc(), rt.stdin())?;
-    let mut replay = Replay::new(rt.alloc());
+fn main(rt: HostRuntime) {
+    let mut rooms = Rooms::new();
+    let mut reader = Reader::new(rt.stdin());
+    let mut line = Line::new();
+    let mut replay = Replay::new();
     // A proved loop has to end, so this one counts its lines, up to a number that no list comes to.
     for _ in 0..u64::MAX {
         if reader.is_done() {
             break;
         }
-        match reader.next() {
-            Some(line) => replay.line(&rt, line)?,
+        match reader.next(&mut line) {
+            Some(line) => replay.line(&rt, &mut rooms, line),
             None => replay.too_long(&rt),
         }
     }
-    replay.close(&rt, reader.is_broken());
-    Ok(())
+    replay.close(&rt, &rooms, reader.is_broken());
 }

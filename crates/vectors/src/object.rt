@@ -1,49 +1,50 @@
 // What the five objects of a sequence have in common: each is created, called and shown.
-//
-// The allocator passes through each call. As a field it would stand in five objects, two of which are no more than a proved value, and a
-// creation would need it as a parameter all the same.
+use super::rooms::Rooms;
 use super::text::Said;
-use super::words::Failure;
+use super::words::NotUnderstood;
 use refusal::Refusal;
-use std::alloc::{AllocError, Global};
+use std::fmt;
+use std::fmt::Write;
 
 pub trait Object: Drop {
     // The calls that may be made on it.
     type Call: Drop;
 
     // Takes the words behind `new`: a new object, or the refusal that its creation answers.
-    fn create(alloc: Global, words: &[&str]) -> Result<Result<Self, Refusal>, Failure>
+    fn create(rooms: &mut Rooms, words: &[&str]) -> Result<Result<Self, Refusal>, NotUnderstood>
     where
         Self: Sized;
 
-    // Takes the name of a call, without the object's, and the words behind it.
-    fn read(alloc: Global, name: &str, words: &[&str]) -> Result<Self::Call, Failure>;
+    // Takes the name of a call, without the object's, and the words behind it. A byte string is put into its room.
+    fn read(rooms: &mut Rooms, name: &str, words: &[&str]) -> Result<Self::Call, NotUnderstood>;
 
-    fn call(&mut self, alloc: Global, call: Self::Call) -> Result<Said, AllocError>;
+    fn call(&mut self, rooms: &mut Rooms, call: Self::Call) -> Said;
 
-    fn state(&self, alloc: Global) -> Result<String, AllocError>;
+    // Writes its state behind our answer.
+    fn show(&self, rooms: &mut Rooms) -> fmt::Result;
 }
 
-// Does what a line asks of an object, and says `ANSWER | STATE`. A creation that is refused leaves the object as it was before, and a call on
-// one that was never created is not made.
+// Does what a line asks of an object, and puts `ANSWER | STATE` into its room. A creation that is refused leaves the object as it was before,
+// and a call on one that was never created is not made. What finds no room is left out.
 pub fn turn<T: Object>(
-    alloc: Global,
     object: &mut Option<T>,
+    rooms: &mut Rooms,
     name: &str,
     words: &[&str],
-) -> Result<String, Failure> {
+) -> Result<(), NotUnderstood> {
     let said = if name == "new" {
-        created(object, T::create(alloc, words)?)
+        created(object, T::create(rooms, words)?)
     } else {
-        called(alloc, object, T::read(alloc, name, words)?)?
+        let call = T::read(rooms, name, words)?;
+        called(object, rooms, call)
     };
-    match object {
-        Some(object) => {
-            let state = object.state(alloc)?;
-            Ok(format!(in alloc; "{said} | {state}")?)
-        }
-        None => Ok(format!(in alloc; "{said} | -")?),
-    }
+    rooms.ours.clear();
+    let _ = write!(rooms.ours, "{said} | ");
+    let _ = match object {
+        Some(object) => object.show(rooms),
+        None => write!(rooms.ours, "-"),
+    };
+    Ok(())
 }
 
 fn created<T: Object>(object: &mut Option<T>, answer: Result<T, Refusal>) -> Said {
@@ -56,13 +57,9 @@ fn created<T: Object>(object: &mut Option<T>, answer: Result<T, Refusal>) -> Sai
     }
 }
 
-fn called<T: Object>(
-    alloc: Global,
-    object: &mut Option<T>,
-    call: T::Call,
-) -> Result<Said, AllocError> {
+fn called<T: Object>(object: &mut Option<T>, rooms: &mut Rooms, call: T::Call) -> Said {
     match object {
-        Some(object) => object.call(alloc, call),
-        None => Ok(Said::Absent),
+        Some(object) => object.call(rooms, call),
+        None => Said::Absent,
     }
 }

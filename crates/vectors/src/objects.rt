@@ -4,12 +4,12 @@ ghost use Rattle.vectors.specs.Sound.{Sound};
 use super::chunk::Chunk;
 use super::object::turn;
 use super::recv::Receiver;
+use super::rooms::Rooms;
 use super::send::Sender;
 use super::set::Set;
 use super::tally::Kind;
 use super::window::Window;
-use super::words::Failure;
-use std::alloc::Global;
+use super::words::{self, NotUnderstood};
 
 // Each is there once it was created.
 #[derive(Drop)]
@@ -34,24 +34,39 @@ impl Objects {
         }
     }
 
-    // Makes the call of a line: which object it is on, and `ANSWER | STATE`.
-    pub fn call(&mut self, alloc: Global, line: &[u8]) -> Result<(Kind, String), Failure>
+    // Makes the call of a line, and puts `ANSWER | STATE` into its room: which object it is on.
+    pub fn call(&mut self, rooms: &mut Rooms, line: &[u8]) -> Result<Kind, NotUnderstood>
         ensures { Sound self.new }
     {
         let Ok(line) = str::from_utf8(line) else {
-            return Err(Failure::NotUnderstood);
+            return Err(NotUnderstood);
         };
-        let words = line.split(' ').collect::<Vec<&str>>(alloc)?;
+        let words = words::split(line)?;
         let [name, words @ ..] = words.as_slice() else {
-            return Err(Failure::NotUnderstood);
+            return Err(NotUnderstood);
         };
         match name.split_once('.') {
-            Some(("rb", name)) => Ok((Kind::Chunk, turn(alloc, &mut self.chunk, name, words)?)),
-            Some(("fc", name)) => Ok((Kind::Window, turn(alloc, &mut self.window, name, words)?)),
-            Some(("rs", name)) => Ok((Kind::Set, turn(alloc, &mut self.set, name, words)?)),
-            Some(("s", name)) => Ok((Kind::Send, turn(alloc, &mut self.send, name, words)?)),
-            Some(("r", name)) => Ok((Kind::Recv, turn(alloc, &mut self.recv, name, words)?)),
-            _ => Err(Failure::NotUnderstood),
+            Some(("rb", name)) => {
+                turn(&mut self.chunk, rooms, name, words)?;
+                Ok(Kind::Chunk)
+            }
+            Some(("fc", name)) => {
+                turn(&mut self.window, rooms, name, words)?;
+                Ok(Kind::Window)
+            }
+            Some(("rs", name)) => {
+                turn(&mut self.set, rooms, name, words)?;
+                Ok(Kind::Set)
+            }
+            Some(("s", name)) => {
+                turn(&mut self.send, rooms, name, words)?;
+                Ok(Kind::Send)
+            }
+            Some(("r", name)) => {
+                turn(&mut self.recv, rooms, name, words)?;
+                Ok(Kind::Recv)
+            }
+            _ => Err(NotUnderstood),
         }
     }
 }

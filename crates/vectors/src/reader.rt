@@ -1,10 +1,13 @@
-// Standard input, a line at a time.
-use std::alloc::Global;
-use std::io;
-use std::io::{BufRead, BufReader, Read, Stdin};
+// Standard input, a line at a time, by way of a small window.
+//
+// The window is an array with two cursors: `BufReader` takes its room from an allocator, and this program has none.
+ghost use Rattle.std.specs.Prelude.{◌≤◌};
 
-// A line has fewer bytes than this, its end not counted.
-const LIMIT: usize = 8192;
+use arrayvec::ArrayVec;
+use std::io::{Read, Stdin};
+
+// Room for a line, its end not counted. One that fills it was cut.
+pub type Line = ArrayVec<u8, 8192>;
 
 // How the input stands. A read that failed is the last one, as the end is.
 #[derive(Clone, Copy, PartialEq, Eq)]
@@ -16,18 +19,25 @@ enum State {
 
 #[derive(Drop)]
 pub struct Reader {
-    input: BufReader<Stdin>,
-    line: Vec<u8>,
+    input: Stdin,
+    // The window's bytes from `at` up to `have` are still to be taken.
+    window: [u8; 4096],
+    at: usize,
+    have: usize,
     state: State,
+    ghost have_in: { have ≤ 4096 },
+    ghost at_in: { at ≤ have },
 }
 
 impl Reader {
-    pub fn new(alloc: Global, input: Stdin) -> io::Result<Reader> {
-        Ok(Reader {
-            input: BufReader::with_capacity(alloc, LIMIT, input)?,
-            line: Vec::with_capacity(alloc, LIMIT)?,
+    pub fn new(input: Stdin) -> Reader {
+        Reader {
+            input,
+            window: [0; 4096],
+            at: 0,
+            have: 0,
             state: State::Open,
-        })
+        }
     }
 
     pub fn is_done(&self) -> bool {
@@ -38,25 +48,48 @@ impl Reader {
         self.state == State::Broken
     }
 
-    // The next line without its end, or none where it is too long. Behind the last one comes an empty line.
-    pub fn next(&mut self) -> Option<&[u8]> {
-        self.line.clear();
-        let mut input = self.input.by_ref().take(LIMIT as u64);
-        let read = input.read_until(b'\n', &mut self.line);
-        if self.line.last() == Some(&b'\n') {
-            self.line.pop();
-            return Some(self.line.as_slice());
+    // The next line without its end, put into its room, or none where it is too long. Behind the last one comes an empty line.
+    pub fn next<'a>(&mut self, line: &'a mut Line) -> Option<&'a [u8]> {
+        line.clear();
+        // A proved loop has to end, so this one counts its steps, up to a number that no line comes to.
+        for _ in 0..u64::MAX {
+            self.refill();
+            if self.take(line) || self.is_done() {
+                break;
+            }
         }
-        if self.line.len() < LIMIT {
-            self.state = match read {
-                Ok(_) => State::Ended,
-                Err(_) => State::Broken,
-            };
-            return Some(self.line.as_slice());
+        if line.is_full() {
+            None
+        } else {
+            Some(line.as_slice())
         }
-        if self.input.skip_until(b'\n').is_err() {
-            self.state = State::Broken;
+    }
+
+    // Reads anew once all of the window was taken.
+    fn refill(&mut self) {
+        if self.at < self.have {
+            return;
         }
-        None
+        self.at = 0;
+        self.have = 0;
+        match self.input.read(&mut self.window) {
+            Ok(0) => self.state = State::Ended,
+            Ok(n) => self.have = n,
+            Err(_) => self.state = State::Broken,
+        }
+    }
+
+    // Takes what the window has of the line. Did that come to the line's end? What finds no room is left out.
+    fn take(&mut self, line: &mut Line) -> bool {
+        let waiting = &self.window[self.at..self.have];
+        let end = waiting.iter().position(|b| *b == b'\n');
+        let n = end.unwrap_or(waiting.len());
+        let room = line.remaining_capacity();
+        let _ = line.try_extend_from_slice(&waiting[..n.min(room)]);
+        match end {
+            Some(n) => self.at += n + 1,
+            None => self.at = self.have,
+        }
+        end.is_some()
     }
 }

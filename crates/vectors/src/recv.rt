@@ -2,14 +2,16 @@
 ghost use Rattle.recv_buf.specs.State.{Good};
 ghost use Rattle.recv_buf.proofs.Props.{recv_props};
 
-use super::arenas::{found, held, zeros};
 use super::object::Object;
-use super::text::{Bytes, List, Said, Text};
+use super::rooms::{Rooms, found, front, front_mut, held};
+use super::text::{AnswerText, Bytes, GettersText, List, Said, Text};
 use super::window::Window;
-use super::words::{Failure, bytes, lent, mark, number};
+use super::words::{NotUnderstood, bytes, lent, mark, number};
+use range_buf::RangeBuf;
 use recv_buf::RecvBuf;
 use refusal::Refusal;
-use std::alloc::{AllocError, Global};
+use std::fmt;
+use std::fmt::Write;
 
 // The buffer alone. It is good at all times, as its calls ask.
 #[derive(Drop)]
@@ -18,24 +20,25 @@ struct Receiving {
     ghost good: { Good buf } by { Prim.hlevel recv_props },
 }
 
-// The buffer, and its arena.
+// The buffer, and how long its arena is.
 #[derive(Drop)]
 pub struct Receiver {
     receiving: Receiving,
-    arena: Vec<u8>,
+    arena: u64,
 }
 
 #[derive(Drop)]
 pub enum RecvCall {
     Write {
         off: u64,
-        data: Vec<u8>,
+        // How many bytes of their room.
+        data: u64,
         fin: bool,
-        lent: Option<Vec<u8>>,
+        lent: Option<u64>,
     },
     Emit {
         room: u64,
-        lent: Option<Vec<u8>>,
+        lent: Option<u64>,
     },
     Discard(u64),
     Reset {
@@ -59,30 +62,32 @@ pub enum RecvCall {
 impl Object for Receiver {
     type Call = RecvCall;
 
-    // A new buffer finds the arena as zeros.
-    fn create(alloc: Global, words: &[&str]) -> Result<Result<Receiver, Refusal>, Failure> {
+    fn create(
+        rooms: &mut Rooms,
+        words: &[&str],
+    ) -> Result<Result<Receiver, Refusal>, NotUnderstood> {
         match words {
-            [limit, maximum, arena] => {
-                let (limit, maximum) = (number(limit)?, number(maximum)?);
-                let arena = zeros(alloc, number(arena)?)?;
-                let made = Receiving::new(limit, maximum, arena.as_slice());
-                Ok(made.map(|receiving| Receiver { receiving, arena }))
-            }
-            _ => Err(Failure::NotUnderstood),
+            [limit, maximum, arena] => Ok(Receiver::new(
+                rooms,
+                number(limit)?,
+                number(maximum)?,
+                number(arena)?,
+            )),
+            _ => Err(NotUnderstood),
         }
     }
 
-    fn read(alloc: Global, name: &str, words: &[&str]) -> Result<RecvCall, Failure> {
+    fn read(rooms: &mut Rooms, name: &str, words: &[&str]) -> Result<RecvCall, NotUnderstood> {
         Ok(match (name, words) {
             ("write", [off, data, fin, rest @ ..]) => RecvCall::Write {
                 off: number(off)?,
-                data: bytes(alloc, data)?,
+                data: bytes(&mut rooms.bytes, data)?,
                 fin: mark(fin)?,
-                lent: lent(alloc, rest)?,
+                lent: lent(rest)?,
             },
             ("emit", [room, rest @ ..]) => RecvCall::Emit {
                 room: number(room)?,
-                lent: lent(alloc, rest)?,
+                lent: lent(rest)?,
             },
             ("discard", [n]) => RecvCall::Discard(number(n)?),
             ("reset", [code, size]) => RecvCall::Reset {
@@ -99,19 +104,19 @@ impl Object for Receiver {
             ("fc.lower_bound", [n]) => RecvCall::LowerBound(number(n)?),
             ("readable_len", [n]) => RecvCall::ReadableLen(number(n)?),
             ("get", []) => RecvCall::Get,
-            _ => return Err(Failure::NotUnderstood),
+            _ => return Err(NotUnderstood),
         })
     }
 
-    fn call(&mut self, alloc: Global, call: RecvCall) -> Result<Said, AllocError> {
-        Ok(match call {
+    fn call(&mut self, rooms: &mut Rooms, call: RecvCall) -> Said {
+        match call {
             RecvCall::Write {
                 off,
                 data,
                 fin,
                 lent,
-            } => self.write(off, data.as_slice(), fin, lent),
-            RecvCall::Emit { room, lent } => self.emit(alloc, room, lent)?,
+            } => self.write(rooms, off, data, fin, lent),
+            RecvCall::Emit { room, lent } => self.emit(rooms, room, lent),
             RecvCall::Discard(n) => self.receiving.discard(n),
             RecvCall::Reset { code, size } => self.receiving.reset(code, size),
             RecvCall::Shutdown => self.receiving.shutdown(),
@@ -120,31 +125,54 @@ impl Object for Receiver {
             RecvCall::AddConsumed(n) => self.receiving.add_consumed(n),
             RecvCall::LowerBound(n) => self.receiving.lower_bound(n),
             RecvCall::ReadableLen(n) => Said::Number(self.receiving.buf.readable_len(n)),
-            RecvCall::Get => Said::Getters(self.receiving.getters(alloc)?),
-        })
+            RecvCall::Get => Said::Getters(self.receiving.getters()),
+        }
     }
 
-    fn state(&self, alloc: Global) -> Result<String, AllocError> {
-        self.receiving.state(alloc, self.arena.as_slice())
+    fn show(&self, rooms: &mut Rooms) -> fmt::Result {
+        let kept = self.kept(rooms);
+        self.receiving.show(kept, &mut rooms.ours)
     }
 }
 
 impl Receiver {
-    fn write(&mut self, off: u64, data: &[u8], fin: bool, mut lent: Option<Vec<u8>>) -> Said {
-        let arena = found(&mut self.arena, &mut lent);
-        self.receiving.write(arena, off, data, fin)
+    // A new buffer finds the arena as zeros.
+    fn new(rooms: &mut Rooms, limit: u64, maximum: u64, length: u64) -> Result<Receiver, Refusal> {
+        let arena = front_mut(&mut rooms.recv, length);
+        let receiving = Receiving::new(limit, maximum, arena)?;
+        arena.fill(0);
+        Ok(Receiver {
+            receiving,
+            arena: length,
+        })
     }
 
-    fn emit(
+    fn write(
         &mut self,
-        alloc: Global,
-        room: u64,
-        mut lent: Option<Vec<u8>>,
-    ) -> Result<Said, AllocError> {
-        let mut out = zeros(alloc, room)?;
-        let arena = found(&mut self.arena, &mut lent);
-        let answer = self.receiving.emit(arena, out.as_mut_slice());
-        Ok(Said::emitted(answer, out))
+        rooms: &mut Rooms,
+        off: u64,
+        data: u64,
+        fin: bool,
+        lent: Option<u64>,
+    ) -> Said {
+        let own = front_mut(&mut rooms.recv, self.arena);
+        let arena = found(own, &mut rooms.lent, lent);
+        self.receiving
+            .write(arena, off, front(&rooms.bytes, data), fin)
+    }
+
+    fn emit(&mut self, rooms: &mut Rooms, room: u64, lent: Option<u64>) -> Said {
+        let own = front_mut(&mut rooms.recv, self.arena);
+        let arena = found(own, &mut rooms.lent, lent);
+        let out = front_mut(&mut rooms.shown, room);
+        let answer = self.receiving.emit(arena, out);
+        Said::emitted(answer, out)
+    }
+
+    // The bytes that are kept and not yet consumed.
+    fn kept(&self, rooms: &mut Rooms) -> Bytes {
+        let arena = front(&rooms.recv, self.arena);
+        Bytes::of(held(arena, self.receiving.chunks(), false, &mut rooms.shown))
     }
 }
 
@@ -229,9 +257,11 @@ impl Receiving {
         }
     }
 
-    fn getters(&self, alloc: Global) -> Result<String, AllocError> {
+    fn getters(&self) -> GettersText {
         let buf = &self.buf;
-        format!(in alloc;
+        let mut text = GettersText::new();
+        let _ = write!(
+            text,
             "off_front={} max_off={} is_fin={} is_draining={} ready={} max_data={} window={} max_data_next={} readable_len={} almost_full={}",
             buf.off_front(),
             buf.max_off(),
@@ -243,17 +273,20 @@ impl Receiving {
             buf.max_data_next(),
             buf.readable_len(u64::MAX),
             Text(buf.almost_full())
-        )
+        );
+        text
     }
 
-    fn state(&self, alloc: Global, arena: &[u8]) -> Result<String, AllocError> {
+    fn chunks(&self) -> &[RangeBuf] {
+        &self.buf.data[..self.buf.count.min(64)]
+    }
+
+    fn show(&self, kept: Bytes, text: &mut AnswerText) -> fmt::Result {
         let buf = &self.buf;
-        let chunks = &buf.data[..buf.count.min(64)];
-        let kept = held(alloc, arena, chunks, false)?;
-        format!(in alloc;
-            "chunks={} kept={} off={} len={} fin={} err={} drain={} {}",
-            List(chunks),
-            Bytes(kept.as_slice()),
+        write!(
+            text,
+            "chunks={} kept={kept} off={} len={} fin={} err={} drain={} {}",
+            List(self.chunks()),
             buf.off,
             buf.len,
             Text(buf.fin_off),

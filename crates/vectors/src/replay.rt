@@ -1,13 +1,12 @@
 // What is known of the list so far: the objects, the call that stands before its verdict, and what was counted.
-use super::case::{Case, Made, Verdict};
+use super::case::{Case, Made, Verdict, keep};
 use super::objects::Objects;
-use super::tally::Tally;
-use super::words::Failure;
-use std::alloc::{AllocError, Global};
+use super::rooms::Rooms;
+use super::tally::{Tally, counted, say};
+use super::words::NotUnderstood;
 
 #[derive(Drop)]
 pub struct Replay {
-    alloc: Global,
     objects: Objects,
     case: Case,
     tally: Tally,
@@ -16,9 +15,8 @@ pub struct Replay {
 }
 
 impl Replay {
-    pub fn new(alloc: Global) -> Replay {
+    pub fn new() -> Replay {
         Replay {
-            alloc,
             objects: Objects::new(),
             case: Case::Nothing,
             tally: Tally::new(),
@@ -26,14 +24,14 @@ impl Replay {
         }
     }
 
-    pub fn line(&mut self, rt: &impl Print, line: &[u8]) -> Result<(), AllocError> {
+    pub fn line(&mut self, rt: &impl Print, rooms: &mut Rooms, line: &[u8]) {
         self.lines = self.lines.saturating_add(1);
         match line {
-            [] | [b'#', ..] => Ok(()),
-            [b'<' | b'!', ..] => self.stored(rt, line),
+            [] | [b'#', ..] => {}
+            [b'<' | b'!', ..] => self.stored(rt, rooms, line),
             _ => {
-                self.settle(rt);
-                self.asked(rt, line)
+                self.settle(rt, rooms);
+                self.asked(rt, rooms, line);
             }
         }
     }
@@ -41,65 +39,62 @@ impl Replay {
     // A line that does not fit is reported, and the call that it may belong to has no further verdict.
     pub fn too_long(&mut self, rt: &impl Print) {
         self.lines = self.lines.saturating_add(1);
-        let _ = println!(rt; "line {}: too long", self.lines);
+        say(rt, b"line ");
+        counted(rt, self.lines, b": too long\n");
         self.tally.differs();
         self.case = Case::Passed;
     }
 
     // The closing table.
-    pub fn close(&mut self, rt: &impl Print, broken: bool) {
-        self.settle(rt);
+    pub fn close(&mut self, rt: &impl Print, rooms: &Rooms, broken: bool) {
+        self.settle(rt, rooms);
         self.tally.broken = broken;
-        let _ = print!(rt; "{}", self.tally);
+        self.tally.table(rt);
     }
 
     // A stored answer: quiche's, or the rules'.
-    fn stored(&mut self, rt: &impl Print, line: &[u8]) -> Result<(), AllocError> {
+    fn stored(&mut self, rt: &impl Print, rooms: &mut Rooms, line: &[u8]) {
         match &mut self.case {
             Case::Nothing => self.not_understood(rt),
             Case::Passed => {}
-            Case::Made(made) => made.hold_against(self.alloc, line)?,
+            Case::Made(made) => made.hold_against(rooms, line),
         }
-        Ok(())
     }
 
     // The next line of the script: the start of a sequence, where all objects are gone, or a call.
-    fn asked(&mut self, rt: &impl Print, line: &[u8]) -> Result<(), AllocError> {
+    fn asked(&mut self, rt: &impl Print, rooms: &mut Rooms, line: &[u8]) {
         if line == b"seq".as_slice() || line.starts_with(b"seq ") {
             self.objects = Objects::new();
-            return Ok(());
+            return;
         }
-        match self.objects.call(self.alloc, line) {
-            Ok((kind, ours)) => {
+        keep(&mut rooms.call, line);
+        match self.objects.call(rooms, line) {
+            Ok(kind) => {
                 self.case = Case::Made(Made {
                     line: self.lines,
                     kind,
-                    call: Vec::from_slice(self.alloc, line)?,
-                    ours,
                     verdict: Verdict::Waits,
                 });
-                Ok(())
             }
-            Err(Failure::NotUnderstood) => {
+            Err(NotUnderstood) => {
                 self.case = Case::Passed;
                 self.not_understood(rt);
-                Ok(())
             }
-            Err(Failure::OutOfMemory(e)) => Err(e),
         }
     }
 
     fn not_understood(&mut self, rt: &impl Print) {
         self.tally.not_understood();
         if self.tally.unclear < 6 {
-            let _ = println!(rt; "line {}: not understood", self.lines);
+            say(rt, b"line ");
+            counted(rt, self.lines, b": not understood\n");
         }
     }
 
     // The call before is done with.
-    fn settle(&mut self, rt: &impl Print) {
+    fn settle(&mut self, rt: &impl Print, rooms: &Rooms) {
         if let Case::Made(made) = &self.case {
-            made.settle(rt, &mut self.tally);
+            made.settle(rt, rooms, &mut self.tally);
         }
         self.case = Case::Nothing;
     }

@@ -2,13 +2,15 @@
 ghost use Rattle.send_buf.specs.State.{Good};
 ghost use Rattle.send_buf.proofs.Props.{send_props};
 
-use super::arenas::{found, held, zeros};
 use super::object::Object;
-use super::text::{Bytes, List, Said, Text};
-use super::words::{Failure, bytes, lent, mark, number, optional};
+use super::rooms::{Rooms, found, front, front_mut, held};
+use super::text::{AnswerText, Bytes, GettersText, List, Said, Shown, Text};
+use super::words::{NotUnderstood, bytes, lent, mark, number, optional};
+use range_buf::RangeBuf;
 use refusal::Refusal;
 use send_buf::SendBuf;
-use std::alloc::{AllocError, Global};
+use std::fmt;
+use std::fmt::Write;
 
 // The buffer alone. It is good at all times, as its calls ask.
 #[derive(Drop)]
@@ -17,23 +19,24 @@ struct Sending {
     ghost good: { Good buf } by { Prim.hlevel send_props },
 }
 
-// The buffer, and its arena.
+// The buffer, and how long its arena is.
 #[derive(Drop)]
 pub struct Sender {
     sending: Sending,
-    arena: Vec<u8>,
+    arena: u64,
 }
 
 #[derive(Drop)]
 pub enum SendCall {
     Write {
-        data: Vec<u8>,
+        // How many bytes of their room.
+        data: u64,
         fin: bool,
-        lent: Option<Vec<u8>>,
+        lent: Option<u64>,
     },
     Emit {
         room: u64,
-        lent: Option<Vec<u8>>,
+        lent: Option<u64>,
     },
     Ack {
         off: u64,
@@ -60,29 +63,23 @@ pub enum SendCall {
 impl Object for Sender {
     type Call = SendCall;
 
-    // A new buffer finds the arena as zeros.
-    fn create(alloc: Global, words: &[&str]) -> Result<Result<Sender, Refusal>, Failure> {
+    fn create(rooms: &mut Rooms, words: &[&str]) -> Result<Result<Sender, Refusal>, NotUnderstood> {
         match words {
-            [limit, arena] => {
-                let limit = number(limit)?;
-                let arena = zeros(alloc, number(arena)?)?;
-                let made = Sending::new(limit, arena.as_slice());
-                Ok(made.map(|sending| Sender { sending, arena }))
-            }
-            _ => Err(Failure::NotUnderstood),
+            [limit, arena] => Ok(Sender::new(rooms, number(limit)?, number(arena)?)),
+            _ => Err(NotUnderstood),
         }
     }
 
-    fn read(alloc: Global, name: &str, words: &[&str]) -> Result<SendCall, Failure> {
+    fn read(rooms: &mut Rooms, name: &str, words: &[&str]) -> Result<SendCall, NotUnderstood> {
         Ok(match (name, words) {
             ("write", [data, fin, rest @ ..]) => SendCall::Write {
-                data: bytes(alloc, data)?,
+                data: bytes(&mut rooms.bytes, data)?,
                 fin: mark(fin)?,
-                lent: lent(alloc, rest)?,
+                lent: lent(rest)?,
             },
             ("emit", [room, rest @ ..]) => SendCall::Emit {
                 room: number(room)?,
-                lent: lent(alloc, rest)?,
+                lent: lent(rest)?,
             },
             ("ack", [off, len]) => SendCall::Ack {
                 off: number(off)?,
@@ -104,14 +101,14 @@ impl Object for Sender {
             },
             ("shutdown", []) => SendCall::Shutdown,
             ("get", []) => SendCall::Get,
-            _ => return Err(Failure::NotUnderstood),
+            _ => return Err(NotUnderstood),
         })
     }
 
-    fn call(&mut self, alloc: Global, call: SendCall) -> Result<Said, AllocError> {
-        Ok(match call {
-            SendCall::Write { data, fin, lent } => self.write(data.as_slice(), fin, lent),
-            SendCall::Emit { room, lent } => self.emit(alloc, room, lent)?,
+    fn call(&mut self, rooms: &mut Rooms, call: SendCall) -> Said {
+        match call {
+            SendCall::Write { data, fin, lent } => self.write(rooms, data, fin, lent),
+            SendCall::Emit { room, lent } => self.emit(rooms, room, lent),
             SendCall::Ack { off, len } => self.sending.ack(off, len),
             SendCall::AckAndDrop { off, len } => self.sending.ack_and_drop(off, len),
             SendCall::Retransmit { off, len } => self.sending.retransmit(off, len),
@@ -120,31 +117,46 @@ impl Object for Sender {
             SendCall::Reset => self.sending.reset(),
             SendCall::Stop { code } => self.sending.stop(code),
             SendCall::Shutdown => self.sending.shutdown(),
-            SendCall::Get => Said::Getters(self.sending.getters(alloc)?),
-        })
+            SendCall::Get => Said::Getters(self.sending.getters()),
+        }
     }
 
-    fn state(&self, alloc: Global) -> Result<String, AllocError> {
-        self.sending.state(alloc, self.arena.as_slice())
+    fn show(&self, rooms: &mut Rooms) -> fmt::Result {
+        let held = self.held(rooms);
+        self.sending.show(held, &mut rooms.ours)
     }
 }
 
 impl Sender {
-    fn write(&mut self, data: &[u8], fin: bool, mut lent: Option<Vec<u8>>) -> Said {
-        let arena = found(&mut self.arena, &mut lent);
-        self.sending.write(arena, data, fin)
+    // A new buffer finds the arena as zeros.
+    fn new(rooms: &mut Rooms, limit: u64, length: u64) -> Result<Sender, Refusal> {
+        let arena = front_mut(&mut rooms.send, length);
+        let sending = Sending::new(limit, arena)?;
+        arena.fill(0);
+        Ok(Sender {
+            sending,
+            arena: length,
+        })
     }
 
-    fn emit(
-        &mut self,
-        alloc: Global,
-        room: u64,
-        mut lent: Option<Vec<u8>>,
-    ) -> Result<Said, AllocError> {
-        let mut out = zeros(alloc, room)?;
-        let arena = found(&mut self.arena, &mut lent);
-        let answer = self.sending.emit(arena, out.as_mut_slice());
-        Ok(Said::emitted(answer, out))
+    fn write(&mut self, rooms: &mut Rooms, data: u64, fin: bool, lent: Option<u64>) -> Said {
+        let own = front_mut(&mut rooms.send, self.arena);
+        let arena = found(own, &mut rooms.lent, lent);
+        self.sending.write(arena, front(&rooms.bytes, data), fin)
+    }
+
+    fn emit(&mut self, rooms: &mut Rooms, room: u64, lent: Option<u64>) -> Said {
+        let own = front_mut(&mut rooms.send, self.arena);
+        let arena = found(own, &mut rooms.lent, lent);
+        let out = front_mut(&mut rooms.shown, room);
+        let answer = self.sending.emit(arena, out);
+        Said::emitted(answer, out)
+    }
+
+    // All bytes of the chunks.
+    fn held(&self, rooms: &mut Rooms) -> Bytes {
+        let arena = front(&rooms.send, self.arena);
+        Bytes::of(held(arena, self.sending.chunks(), true, &mut rooms.shown))
     }
 }
 
@@ -227,10 +239,12 @@ impl Sending {
         done.answer.into()
     }
 
-    fn getters(&self, alloc: Global) -> Result<String, AllocError> {
+    fn getters(&self) -> GettersText {
         let buf = &self.buf;
-        format!(in alloc;
-            "off_back={} off_front={} max_off={} is_fin={} is_complete={} is_stopped={} is_shutdown={} is_empty={} ack_off={} {} bufs_count={} \
+        let mut text = GettersText::new();
+        let _ = write!(
+            text,
+            "off_back={} off_front={} max_off={} is_fin={} is_complete={} is_stopped={} is_shutdown={} is_empty={} ack_off={} cap={} bufs_count={} \
              buffered_bytes={} blocked_at={}",
             buf.off_back(),
             buf.off_front(),
@@ -241,29 +255,24 @@ impl Sending {
             Text(buf.is_shutdown()),
             Text(buf.is_empty()),
             buf.ack_off(),
-            self.cap(alloc)?,
+            Text(buf.cap()),
             buf.bufs_count(),
             buf.buffered_bytes(),
             Text(buf.blocked_at())
-        )
+        );
+        text
     }
 
-    // The room that the limit leaves; a refusal in parentheses.
-    fn cap(&self, alloc: Global) -> Result<String, AllocError> {
-        match self.buf.cap() {
-            Ok(n) => format!(in alloc; "cap={n}"),
-            Err(why) => format!(in alloc; "cap=({})", Text(why)),
-        }
+    fn chunks(&self) -> &[RangeBuf] {
+        &self.buf.data[..self.buf.count.min(64)]
     }
 
-    fn state(&self, alloc: Global, arena: &[u8]) -> Result<String, AllocError> {
+    fn show(&self, held: Bytes, text: &mut AnswerText) -> fmt::Result {
         let buf = &self.buf;
-        let chunks = &buf.data[..buf.count.min(64)];
-        let held = held(alloc, arena, chunks, true)?;
-        format!(in alloc;
-            "chunks={} held={} pos={} off={} emitted={} tosend={} limit={} blocked={} fin={} acked={} shut={} err={}",
-            List(chunks),
-            Bytes(held.as_slice()),
+        write!(
+            text,
+            "chunks={} held={held} pos={} off={} emitted={} tosend={} limit={} blocked={} fin={} acked={} shut={} err={}",
+            List(self.chunks()),
             buf.pos,
             buf.off,
             buf.emit_off,
@@ -275,5 +284,15 @@ impl Sending {
             Text(buf.shutdown),
             Text(buf.error)
         )
+    }
+}
+
+// The room that the limit leaves; a refusal in parentheses.
+impl Shown for Result<u64, Refusal> {
+    fn show<W: fmt::Write>(self, f: &mut fmt::Formatter<W>) -> fmt::Result {
+        match self {
+            Ok(n) => write!(f, "{n}"),
+            Err(why) => write!(f, "({})", Text(why)),
+        }
     }
 }

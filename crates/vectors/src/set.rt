@@ -3,12 +3,13 @@ ghost use Rattle.ranges.specs.State.{Good};
 ghost use Rattle.ranges.proofs.Props.{set_props};
 
 use super::object::Object;
+use super::rooms::Rooms;
 use super::text::{List, Said, Shown, Text};
-use super::words::{Failure, number};
+use super::words::{NotUnderstood, number};
 use ranges::{Range, RangeSet};
 use refusal::Refusal;
-use std::alloc::{AllocError, Global};
-use std::fmt;
+use std::fmt::Write;
+use std::{array, fmt};
 
 // It is good at all times, as its calls ask.
 #[derive(Drop)]
@@ -32,14 +33,14 @@ pub enum SetCall {
 impl Object for Set {
     type Call = SetCall;
 
-    fn create(_alloc: Global, words: &[&str]) -> Result<Result<Set, Refusal>, Failure> {
+    fn create(_rooms: &mut Rooms, words: &[&str]) -> Result<Result<Set, Refusal>, NotUnderstood> {
         match words {
             [capacity] => Ok(Set::new(number(capacity)? as usize)),
-            _ => Err(Failure::NotUnderstood),
+            _ => Err(NotUnderstood),
         }
     }
 
-    fn read(_alloc: Global, name: &str, words: &[&str]) -> Result<SetCall, Failure> {
+    fn read(_rooms: &mut Rooms, name: &str, words: &[&str]) -> Result<SetCall, NotUnderstood> {
         Ok(match (name, words) {
             ("insert", [start, end]) => SetCall::Insert(range(start, end)?),
             ("push_item", [item]) => SetCall::PushItem(number(item)?),
@@ -49,29 +50,29 @@ impl Object for Set {
             ("last", []) => SetCall::Last,
             ("iter", []) => SetCall::Iter,
             ("eq", [start, end]) => SetCall::Eq(range(start, end)?),
-            _ => return Err(Failure::NotUnderstood),
+            _ => return Err(NotUnderstood),
         })
     }
 
-    fn call(&mut self, alloc: Global, call: SetCall) -> Result<Said, AllocError> {
-        Ok(match call {
+    fn call(&mut self, _rooms: &mut Rooms, call: SetCall) -> Said {
+        match call {
             SetCall::Insert(item) => self.insert(item),
             SetCall::PushItem(item) => self.push_item(item),
             SetCall::RemoveUntil(largest) => self.remove_until(largest),
             SetCall::Contains(item) => Said::Mark(self.set.contains(item)),
             SetCall::Len => Said::Number(self.set.len() as u64),
             SetCall::Last => Said::Optional(self.set.last()),
-            SetCall::Iter => Said::Ranges(self.ranges(alloc)?),
+            SetCall::Iter => Said::Ranges(self.ranges()),
             SetCall::Eq(item) => Said::Mark(self.set.eq(item)),
-        })
+        }
     }
 
-    fn state(&self, alloc: Global) -> Result<String, AllocError> {
-        format!(in alloc; "{}", Text(self.set))
+    fn show(&self, rooms: &mut Rooms) -> fmt::Result {
+        write!(rooms.ours, "{}", Text(self.set))
     }
 }
 
-fn range(start: &str, end: &str) -> Result<Range, Failure> {
+fn range(start: &str, end: &str) -> Result<Range, NotUnderstood> {
     Ok(Range {
         start: number(start)?,
         end: number(end)?,
@@ -108,8 +109,8 @@ impl Set {
     }
 
     // The ranges as the set's own calls give them, one after the other.
-    fn ranges(&self, alloc: Global) -> Result<Vec<Range>, AllocError> {
-        (0..64).filter_map(|i| self.set.get(i)).collect(alloc)
+    fn ranges(&self) -> [Option<Range>; 64] {
+        array::from_fn(|i| self.set.get(i))
     }
 }
 

@@ -1,5 +1,6 @@
 // What is counted, and the closing table. A count that would pass 64 bits stands still.
-use std::fmt;
+//
+// The table is many small writes. One that fails is passed over, and the next is tried all the same: the verdict above all.
 
 // The object of a call.
 #[derive(Clone, Copy)]
@@ -116,50 +117,64 @@ impl Tally {
         }
     }
 
-    fn write_kinds<W: fmt::Write>(&self, f: &mut fmt::Formatter<W>) -> fmt::Result {
+    // The closing table.
+    pub fn table(&self, rt: &impl Print) {
         for kind in KINDS {
-            let name = kind.name();
-            let Counts {
-                calls,
-                agree,
-                ruled,
-            } = self.counts[kind as usize];
-            writeln!(
-                f,
-                "{name}.: {calls} calls, {agree} agree with quiche, {ruled} in a row"
-            )?;
+            self.kind(rt, kind);
         }
-        Ok(())
-    }
-
-    fn write_rows<W: fmt::Write>(&self, f: &mut fmt::Formatter<W>) -> fmt::Result {
-        for (row, n) in self.rows.iter().enumerate() {
-            if *n > 0 {
-                writeln!(f, "  D-{row}: {n}")?;
-            }
-        }
-        Ok(())
-    }
-}
-
-impl fmt::Display for Tally {
-    fn fmt<W: fmt::Write>(&self, f: &mut fmt::Formatter<W>) -> fmt::Result {
+        say(
+            rt,
+            b"rows of docs/DIFFERENCES.md, each call with what docs/RULES.md asks:\n",
+        );
+        self.each_row(rt);
         let Counts {
             calls,
             agree,
             ruled,
         } = self.total();
-        self.write_kinds(f)?;
-        writeln!(
-            f,
-            "rows of docs/DIFFERENCES.md, each call with what docs/RULES.md asks:"
-        )?;
-        self.write_rows(f)?;
-        writeln!(f, "{calls} calls")?;
-        writeln!(f, "{agree} agree with quiche's stored answer")?;
-        writeln!(f, "{ruled} stand in a row and give what docs/RULES.md asks")?;
-        writeln!(f, "{} differ otherwise", self.differ)?;
-        writeln!(f, "{} lines not understood", self.unclear)?;
-        writeln!(f, "vectors: {}", self.verdict())
+        counted(rt, calls, b" calls\n");
+        counted(rt, agree, b" agree with quiche's stored answer\n");
+        counted(
+            rt,
+            ruled,
+            b" stand in a row and give what docs/RULES.md asks\n",
+        );
+        counted(rt, self.differ, b" differ otherwise\n");
+        counted(rt, self.unclear, b" lines not understood\n");
+        let _ = println!(rt; "vectors: {}", self.verdict());
     }
+
+    fn kind(&self, rt: &impl Print, kind: Kind) {
+        let Counts {
+            calls,
+            agree,
+            ruled,
+        } = self.counts[kind as usize];
+        let _ = print!(rt; "{}.: ", kind.name());
+        counted(rt, calls, b" calls, ");
+        counted(rt, agree, b" agree with quiche, ");
+        counted(rt, ruled, b" in a row\n");
+    }
+
+    // The rows that calls stand in.
+    fn each_row(&self, rt: &impl Print) {
+        for (row, n) in self.rows.iter().enumerate() {
+            if *n > 0 {
+                say(rt, b"  D-");
+                counted(rt, row as u64, b": ");
+                counted(rt, *n, b"\n");
+            }
+        }
+    }
+}
+
+// One write.
+pub fn say(rt: &impl Print, text: &[u8]) {
+    let _ = rt.write_all(text);
+}
+
+// Two: a number, and the text behind it.
+pub fn counted(rt: &impl Print, n: u64, text: &[u8]) {
+    let _ = print!(rt; "{n}");
+    say(rt, text);
 }

@@ -1,8 +1,16 @@
 // The call script's text: how it writes numbers that may be missing, marks, bytes, chunks, ranges and answers.
+use super::rooms::front;
+use arrayvec::{ArrayString, ArrayVec};
 use range_buf::RangeBuf;
 use ranges::Range;
 use refusal::Refusal;
 use std::fmt;
+
+// Room for `ANSWER | STATE`, which is at most two tables of 64 entries and some thirty numbers more.
+pub type AnswerText = ArrayString<8192>;
+
+// Room for what the getters of a buffer give.
+pub type GettersText = ArrayString<512>;
 
 // What the script has a spelling of its own for.
 pub trait Shown: Copy {
@@ -36,22 +44,35 @@ impl<'a, T: Shown> fmt::Display for List<'a, T> {
     }
 }
 
-// Up to 32 bytes in full, more as their count and CRC-32.
-#[derive(Clone, Copy)]
-pub struct Bytes<'a>(pub &'a [u8]);
+// What is shown of bytes: up to 32 in full, of more their count and CRC-32.
+#[derive(Drop)]
+pub enum Bytes {
+    InFull(ArrayVec<u8, 32>),
+    Summed(usize, u32),
+}
 
-impl<'a> fmt::Display for Bytes<'a> {
+impl Bytes {
+    pub fn of(bytes: &[u8]) -> Bytes {
+        let mut few = ArrayVec::new();
+        match few.try_extend_from_slice(bytes) {
+            Ok(()) => Bytes::InFull(few),
+            Err(_) => Bytes::Summed(bytes.len(), crc32(bytes)),
+        }
+    }
+}
+
+impl fmt::Display for Bytes {
     fn fmt<W: fmt::Write>(&self, f: &mut fmt::Formatter<W>) -> fmt::Result {
-        let count = self.0.len();
-        if count > 32 {
-            let sum = crc32(self.0);
-            return write!(f, "h{count}:{sum:08x}");
+        match self {
+            Bytes::InFull(bytes) => {
+                write!(f, "x")?;
+                for b in bytes.as_slice() {
+                    write!(f, "{b:02x}")?;
+                }
+                Ok(())
+            }
+            Bytes::Summed(count, sum) => write!(f, "h{count}:{sum:08x}"),
         }
-        write!(f, "x")?;
-        for b in self.0 {
-            write!(f, "{b:02x}")?;
-        }
-        Ok(())
     }
 }
 
@@ -99,6 +120,23 @@ impl Shown for Range {
     }
 }
 
+// The ranges that were found at the places of a table.
+fn show_found<W: fmt::Write>(
+    f: &mut fmt::Formatter<W>,
+    places: &[Option<Range>; 64],
+) -> fmt::Result {
+    write!(f, "ok [")?;
+    for (i, place) in places.iter().enumerate() {
+        if let Some(range) = place {
+            if i > 0 {
+                write!(f, ",")?;
+            }
+            range.show(f)?;
+        }
+    }
+    write!(f, "]")
+}
+
 // `no`, the refusal's number, and its code where it has one.
 impl Shown for Refusal {
     fn show<W: fmt::Write>(self, f: &mut fmt::Formatter<W>) -> fmt::Result {
@@ -122,11 +160,11 @@ pub enum Said {
     Sizes(u64, u64),
     // How many bytes, and whether they reach the final size; without the bytes, or with them.
     Discarded(u64, bool),
-    Emitted(u64, bool, Vec<u8>),
+    Emitted(u64, bool, Bytes),
     Right(RangeBuf),
-    Ranges(Vec<Range>),
+    Ranges([Option<Range>; 64]),
     // What all getters give.
-    Getters(String),
+    Getters(GettersText),
     Refused(Refusal),
 }
 
@@ -162,12 +200,9 @@ impl From<Result<RangeBuf, Refusal>> for Said {
 
 impl Said {
     // The bytes are the first of `out`.
-    pub fn emitted(answer: Result<(u64, bool), Refusal>, mut out: Vec<u8>) -> Said {
+    pub fn emitted(answer: Result<(u64, bool), Refusal>, out: &[u8]) -> Said {
         match answer {
-            Ok((n, fin)) => {
-                out.truncate(n as usize);
-                Said::Emitted(n, fin, out)
-            }
+            Ok((n, fin)) => Said::Emitted(n, fin, Bytes::of(front(out, n))),
             Err(why) => Said::Refused(why),
         }
     }
@@ -183,11 +218,9 @@ impl fmt::Display for Said {
             Said::Mark(yes) => write!(f, "ok {}", Text(*yes)),
             Said::Sizes(first, second) => write!(f, "ok {first} {second}"),
             Said::Discarded(n, fin) => write!(f, "ok {n} {}", Text(*fin)),
-            Said::Emitted(n, fin, bytes) => {
-                write!(f, "ok {n} {} {}", Text(*fin), Bytes(bytes.as_slice()))
-            }
+            Said::Emitted(n, fin, bytes) => write!(f, "ok {n} {} {bytes}", Text(*fin)),
             Said::Right(chunk) => write!(f, "ok {}", Text(*chunk)),
-            Said::Ranges(ranges) => write!(f, "ok {}", List(ranges.as_slice())),
+            Said::Ranges(ranges) => show_found(f, ranges),
             Said::Getters(text) => write!(f, "ok {text}"),
             Said::Refused(why) => why.show(f),
         }

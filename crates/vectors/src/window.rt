@@ -2,12 +2,13 @@
 ghost use Rattle.flowcontrol.specs.State.{Good};
 
 use super::object::Object;
+use super::rooms::Rooms;
 use super::text::{Said, Shown, Text};
-use super::words::{Failure, number};
+use super::words::{NotUnderstood, number};
 use flowcontrol::FlowControl;
 use refusal::Refusal;
-use std::alloc::{AllocError, Global};
 use std::fmt;
+use std::fmt::Write;
 
 // It is good at all times, as its calls ask.
 #[derive(Drop)]
@@ -31,18 +32,21 @@ pub enum WindowCall {
 impl Object for Window {
     type Call = WindowCall;
 
-    fn create(_alloc: Global, words: &[&str]) -> Result<Result<Window, Refusal>, Failure> {
+    fn create(
+        _rooms: &mut Rooms,
+        words: &[&str],
+    ) -> Result<Result<Window, Refusal>, NotUnderstood> {
         match words {
             [limit, window, maximum] => Ok(Window::new(
                 number(limit)?,
                 number(window)?,
                 number(maximum)?,
             )),
-            _ => Err(Failure::NotUnderstood),
+            _ => Err(NotUnderstood),
         }
     }
 
-    fn read(_alloc: Global, name: &str, words: &[&str]) -> Result<WindowCall, Failure> {
+    fn read(_rooms: &mut Rooms, name: &str, words: &[&str]) -> Result<WindowCall, NotUnderstood> {
         Ok(match (name, words) {
             ("add_consumed", [n]) => WindowCall::AddConsumed(number(n)?),
             ("commit", [now]) => WindowCall::Commit { now: number(now)? },
@@ -55,12 +59,12 @@ impl Object for Window {
             ("max_data", []) => WindowCall::MaxData,
             ("should_update", []) => WindowCall::ShouldUpdate,
             ("next", []) => WindowCall::Next,
-            _ => return Err(Failure::NotUnderstood),
+            _ => return Err(NotUnderstood),
         })
     }
 
-    fn call(&mut self, _alloc: Global, call: WindowCall) -> Result<Said, AllocError> {
-        Ok(match call {
+    fn call(&mut self, _rooms: &mut Rooms, call: WindowCall) -> Said {
+        match call {
             WindowCall::AddConsumed(n) => self.add_consumed(n),
             WindowCall::Commit { now } => self.commit(now),
             WindowCall::Autotune { now, rtt } => self.autotune(now, rtt),
@@ -69,11 +73,11 @@ impl Object for Window {
             WindowCall::MaxData => Said::Number(self.flow.max_data()),
             WindowCall::ShouldUpdate => Said::Mark(self.flow.should_update_max_data()),
             WindowCall::Next => Said::Number(self.flow.max_data_next()),
-        })
+        }
     }
 
-    fn state(&self, alloc: Global) -> Result<String, AllocError> {
-        format!(in alloc; "{}", Text(self.flow))
+    fn show(&self, rooms: &mut Rooms) -> fmt::Result {
+        write!(rooms.ours, "{}", Text(self.flow))
     }
 }
 

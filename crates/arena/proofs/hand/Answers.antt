@@ -24,8 +24,8 @@ loop-start-init c =
     let e = c.min-end.ensures in
     let p = c.place-at.ensures in
     let fit : at + n ≤ length a.arena.now = omega (arith, e, p.1) in
-    let is = c.copy_from_slice.ensures.after in
-    let last = c.copy_from_slice.new.self in
+    let is = c.copy.ensures in
+    let last = c.copy.new.dst in
     let same : length (last ++ drop n a.out.now) ≡ length a.out.now = search rules in (
       omega (arith, e, same),
       λ r. around (length a.arena.now) a.off at n p.0 (omega (arith, e, p.1, same, r)),
@@ -39,13 +39,13 @@ loop-start-preserved c =
     let n = c.min-n.result in
     let all = length a.arena.now in
     let inv = l.invariant in
-    let last = c.copy_from_slice-in-loop-start.new.self in
+    let last = c.copy-in-loop-start.new.dst in
     let out = put_mid l.start (l.start + n - l.start) l.out last in
     let whole : n ≡ all = omega (arith, c.min-n.ensures, inv.0) in
     let fit : l.start + n ≤ length l.out = omega (arith, c.min-n.ensures, inv.0) in
     let first : 0 ≡ (a.off + l.start) % all = inv.1 (omega arith) in
     let same = put_length l.start n l.out last fit (search rules) in
-    let filled = hand_next a.arena.now a.off l.start n l.out last first (omega (arith, whole)) fit c.copy_from_slice-in-loop-start.ensures.after inv.2 in (
+    let filled = hand_next a.arena.now a.off l.start n l.out last first (omega (arith, whole)) fit c.copy-in-loop-start.ensures inv.2 in (
       omega (arith, whole, fit, same),
       λ _. around all (a.off + l.start) 0 all first (omega arith) ∙ ap (λ (m : ℕ). m % all) (add_assoc a.off l.start all),
       ap (λ (m : ℕ). take (l.start + m) out) (sym whole) ∙ filled ∙ ap (λ (m : ℕ). held a.arena.now a.off (l.start + m)) whole,
@@ -63,11 +63,11 @@ returns-else-is_empty-2 c =
     let l = c.loop-start in
     let n = c.min-n.result in
     let inv = l.invariant in
-    let last = c.copy_from_slice-in-loop-start.new.self in
+    let last = c.copy-in-loop-start.new.dst in
     let out = put_mid l.start (l.start + n - l.start) l.out last in
     let end : l.start + n ≡ length l.out = omega (arith, c.min-n.ensures, inv.0) in
     let fit : l.start + n ≤ length l.out = omega (arith, end) in
     let first : 0 ≡ (a.off + l.start) % length a.arena.now = inv.1 (omega arith) in
     let same = put_length l.start n l.out last fit (search rules) in
-    let filled = hand_next a.arena.now a.off l.start n l.out last first (omega (arith, c.min-n.ensures)) fit c.copy_from_slice-in-loop-start.ensures.after inv.2 in
+    let filled = hand_next a.arena.now a.off l.start n l.out last first (omega (arith, c.min-n.ensures)) fit c.copy-in-loop-start.ensures inv.2 in
     hand_end a.arena.now a.off (l.start + n) out a.out.now (search rules) (end ∙ sym same) (same ∙ search rules) filled

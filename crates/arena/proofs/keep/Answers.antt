@@ -26,8 +26,8 @@ loop-part-init c =
     let some : length rest + length front ≡ length a.src.now = search rules in
     let size = c.split_at.ensures.front_len in
     let least = c.min.ensures in
-    let is = c.copy_from_slice.ensures.after in
-    let last = c.copy_from_slice.new.self in
+    let is = c.copy.ensures in
+    let last = c.copy.new.dst in
     let fit : at + length front ≤ length a.arena.now = omega (arith, size, least, c.place-at.ensures.1) in (
       search rules,
       tt,
@@ -48,7 +48,7 @@ loop-part-preserved c =
       search rules,
       tt,
       steps.0 ∙ inv.2,
-      keep_next a c.in-Some.part.now (chunks_rest c.next.new.self) more c.copy_from_slice-in-loop-part.new.self steps.1.0 part c.copy_from_slice-in-loop-part.ensures.after
+      keep_next a c.in-Some.part.now (chunks_rest c.next.new.self) more c.copy-in-loop-part.new.dst steps.1.0 part c.copy-in-loop-part.ensures
           ∙ inv.3,
     )
 

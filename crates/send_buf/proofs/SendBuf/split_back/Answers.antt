@@ -25,13 +25,21 @@ back_bytes-bytes-requires c =
 pub overflow_add-count : goal.overflow_add-count
 overflow_add-count c = omega (arith, few c.args.self c.requires.good)
 
+pub slice_bounds-rest-end : goal.slice_bounds-rest-end
+slice_bounds-rest-end c =
+    let s = splits c.args.self c.requires.good c.args.at c.args.off c.args.len c.requires.inside c.split_off-cut.result c.split_off-cut.ensures c.in-Ok.right c.in-Ok.is in
+    let rest = drop (c.args.at + 1) (set c.args.self.«data» c.args.at c.split_off-cut.result.state) in
+    let w = c.move_back.new.chunks ++ rest in
+    let m = ap (λ (l : List RangeBuf). l ++ rest) c.move_back.ensures in
+    omega (arith, s.few_now, s.places w m)
+
 pub relist_joined-requires-clause-tiled : goal.relist_joined-requires-clause-tiled
 relist_joined-requires-clause-tiled c =
     let s = splits c.args.self c.requires.good c.args.at c.args.off c.args.len c.requires.inside c.split_off-cut.result c.split_off-cut.ensures c.in-Ok.right c.in-Ok.is in
     let rest = drop (c.args.at + 1) (set c.args.self.«data» c.args.at c.split_off-cut.result.state) in
     let w = c.move_back.new.chunks ++ rest in
     let m = ap (λ (l : List RangeBuf). l ++ rest) c.move_back.ensures in
-    subst Tiled (sym (s.both_parts w m (omega (arith, s.few_now, c.if-count-gt64.true)))) (tiled_back c.args.self c.requires.good c.args.off (c.args.off + c.args.len))
+    subst Tiled (sym (s.both_parts w m)) (tiled_back c.args.self c.requires.good c.args.off (c.args.off + c.args.len))
 
 pub relist_joined-requires-clause-bytes_in : goal.relist_joined-requires-clause-bytes_in
 relist_joined-requires-clause-bytes_in c =
@@ -45,7 +53,7 @@ returns-then-count-gt64 c =
     let w = c.move_back.new.chunks ++ rest in
     let m = ap (λ (l : List RangeBuf). l ++ rest) c.move_back.ensures in
     let h = c.requires.inside in
-    c.relist_joined.ensures ∙ ap₂ (relists (view_of c.args.self)) (s.both_parts w m (omega (arith, s.few_now, c.if-count-gt64.true))) (c.back_bytes-bytes.ensures ∙ s.bytes)
+    c.relist_joined.ensures ∙ ap₂ (relists (view_of c.args.self)) (s.both_parts w m) (c.back_bytes-bytes.ensures ∙ s.bytes)
     ∙ sym (loss_joined (view_of c.args.self) c.args.off c.args.len h.was_sent_lem h.unsettled (omega (arith, s.count, c.if-count-gt64.true)))
 
 pub overflow_add-self : goal.overflow_add-self
