@@ -4,7 +4,7 @@
 //     carry [seed [loss per mille [repeat per mille [frame size [send arena [receive arena]]]]]] < FILE > COPY
 //
 // The last line on standard error is the verdict: `carry: whole and equal`, or another that begins with `carry: NOT`. The script `carry` at
-// the top of the repository goes by it. A line that standard error does not take is lost, and the next is tried all the same.
+// the top of the repository goes by it. What standard error does not take is lost, and the next piece of text is tried all the same.
 #![tactic(auto)]
 
 ghost use Rattle.std.specs.Prelude.{◌≤◌};
@@ -21,7 +21,7 @@ mod window;
 use run::{Ends, Run};
 use settings::Settings;
 use std::rt::Clock;
-use text::Grouped;
+use text::{Grouped, say};
 use window::Window;
 
 fn main(rt: HostRuntime) {
@@ -77,15 +77,19 @@ fn summary(rt: &impl Eprint, run: &Run) {
 
 // What a run that did not come to its end waits for, and why in vain.
 fn stall(rt: &impl Eprint, ends: &Ends) {
-    let byte = Grouped(ends.recv.off_front());
-    let _ = eprint!(rt; "carry: STALLED: the reader waits for byte {byte}, and ");
+    say(rt, "carry: STALLED: the reader waits for byte ");
+    say(rt, Grouped(ends.recv.off_front()));
     if ends.is_stuck() {
-        let _ = eprintln!(rt; "all 64 entries of the receive table hold what lies behind it:");
-        let _ = eprintln!(rt;
-            "carry: each frame that brings it is refused TableFull (6), for ever"
+        say(
+            rt,
+            ", and all 64 entries of the receive table hold what lies behind it:\n",
+        );
+        say(
+            rt,
+            "carry: each frame that brings it is refused TableFull (6), for ever\n",
         );
     } else {
-        let _ = eprintln!(rt; "no byte was handed out in a million rounds");
+        say(rt, ", and no byte was handed out in a million rounds\n");
     }
     ends.tally.refusals.tell_last(rt);
     let _ = eprintln!(rt;

@@ -4,7 +4,7 @@
 // when the frame, which stays in flight, comes to the channel's end again.
 ghost use Rattle.std.specs.Prelude.{◌<◌};
 
-use crate::text::{Grouped, row};
+use crate::text::{Grouped, amount, say};
 use refusal::Refusal;
 
 // The calls that may be refused.
@@ -85,7 +85,9 @@ impl Met {
     fn table(&self, rt: &impl Eprint, calls: &str) {
         for (name, count) in NAMES.iter().zip(self.counts) {
             if count > 0 {
-                row(rt, format_args!("{calls:<16}{name:<16}"), Grouped(count));
+                say(rt, format_args!("  {calls:<16}"));
+                say(rt, format_args!("{name:<16}"));
+                amount(rt, count);
             }
         }
     }
@@ -93,8 +95,11 @@ impl Met {
     fn tell_last(&self, rt: &impl Eprint, call: &str) {
         if let Some((why, round)) = self.last {
             let name = NAMES[place(why)];
-            let round = Grouped(round);
-            let _ = eprintln!(rt; "  {call:<26}{name:<16}in round {round}");
+            say(rt, format_args!("  {call:<26}"));
+            say(rt, format_args!("{name:<16}"));
+            say(rt, "in round ");
+            say(rt, Grouped(round));
+            say(rt, "\n");
         }
     }
 }

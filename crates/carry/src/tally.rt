@@ -3,7 +3,7 @@ ghost use Rattle.std.specs.Prelude.{◌≡◌};
 ghost use Rattle.carry.specs.Verdict.{sizes_agree, sums_agree, equal, verdict_of};
 
 use crate::refusals::{Call, Refusals};
-use crate::text::{Grouped, row, yes_or_no};
+use crate::text::{Grouped, answer, row, say, word};
 use refusal::Refusal;
 use std::fmt;
 use std::fmt::{Display, Formatter};
@@ -98,29 +98,30 @@ impl Tally {
         self.idle = self.idle.saturating_add(1);
         let now = second(rt);
         if now != self.told {
-            let bytes = Grouped(self.given.count);
-            let rounds = Grouped(self.rounds);
-            let _ = eprintln!(rt; "carry: so far {bytes} bytes in {rounds} rounds");
+            say(rt, "carry: so far ");
+            say(rt, Grouped(self.given.count));
+            say(rt, " bytes in ");
+            say(rt, Grouped(self.rounds));
+            say(rt, " rounds\n");
             self.told = now;
         }
     }
 
     // The closing table. `frame` is the frame size; `whole` says that the stream came to its end.
     pub fn table(&self, rt: &impl Eprint, frame: usize, sizes: FinalSizes, whole: bool) {
-        row(rt, "bytes read", Grouped(self.taken.count));
-        row(rt, "bytes handed out", Grouped(self.given.count));
-        row(rt, "frame size", Grouped(frame as u64));
-        row(rt, "frames sent", Grouped(self.sent));
-        row(rt, "frames lost", Grouped(self.lost));
-        row(rt, "frames repeated", Grouped(self.repeated));
+        row(rt, "bytes read", self.taken.count);
+        row(rt, "bytes handed out", self.given.count);
+        row(rt, "frame size", frame as u64);
+        row(rt, "frames sent", self.sent);
+        row(rt, "frames lost", self.lost);
+        row(rt, "frames repeated", self.repeated);
         self.refusals.table(rt);
-        row(rt, "rounds", Grouped(self.rounds));
+        row(rt, "rounds", self.rounds);
         size(rt, "final size at the sender", sizes.sender);
         size(rt, "final size at the receiver", sizes.receiver);
-        row(rt, "the stream came to its end", yes_or_no(whole));
-        let agree = yes_or_no(self.sizes(sizes));
-        row(rt, "final sizes are the bytes", agree);
-        row(rt, "checksums are the same", yes_or_no(self.sums()));
+        answer(rt, "the stream came to its end", whole);
+        answer(rt, "final sizes are the bytes", self.sizes(sizes));
+        answer(rt, "checksums are the same", self.sums());
     }
 
     // The verdict on a run. `whole` says that the stream came to its end.
@@ -158,8 +159,8 @@ impl Tally {
 
 fn size(rt: &impl Eprint, what: &str, size: Option<u64>) {
     match size {
-        Some(n) => row(rt, what, Grouped(n)),
-        None => row(rt, what, "unknown"),
+        Some(n) => row(rt, what, n),
+        None => word(rt, what, "unknown"),
     }
 }
 

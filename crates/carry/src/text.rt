@@ -21,12 +21,30 @@ fn spell<W: fmt::Write>(f: &mut Formatter<W>, n: u64, width: usize) -> fmt::Resu
     write!(f, ",{:03}", n % 1000)
 }
 
-// A line of the table: what, and in the last of its columns how much. One that cannot be written is passed over.
-pub fn row<L: Display + Drop, V: Display + Drop>(rt: &impl Eprint, what: L, value: V) {
-    let _ = eprintln!(rt; "  {what:<32}{value:>15}");
+// A piece of text, by a write of its own. One that cannot be written is passed over, and the next is tried all the same.
+pub fn say<T: Display + Drop>(rt: &impl Eprint, text: T) {
+    let _ = eprint!(rt; "{text}");
 }
 
-// An answer in the table.
-pub fn yes_or_no(yes: bool) -> &'static str {
-    if yes { "yes" } else { "NO" }
+// A line of the table: what, and in the last of its columns how much.
+pub fn row(rt: &impl Eprint, what: &str, n: u64) {
+    say(rt, format_args!("  {what:<32}"));
+    amount(rt, n);
+}
+
+// The last column of a line, and its end.
+pub fn amount(rt: &impl Eprint, n: u64) {
+    say(rt, format_args!("{:>15}", Grouped(n)));
+    say(rt, "\n");
+}
+
+// A line of the table with an answer in place of the number.
+pub fn answer(rt: &impl Eprint, what: &str, yes: bool) {
+    word(rt, what, if yes { "yes" } else { "NO" });
+}
+
+// The same with another word.
+pub fn word(rt: &impl Eprint, what: &str, word: &str) {
+    say(rt, format_args!("  {what:<32}"));
+    say(rt, format_args!("{word:>15}\n"));
 }
